@@ -1,8 +1,10 @@
 // The lines of a text.
 ghost use mathlib.Core.List.{_∷_};
 ghost use mathlib.Core.Path.{_≡_};
-ghost use Prim.Native.Nat.{_<_};
+ghost use Prim.Native.Nat.{_<_, _≤_};
 ghost use lib.ListN.{length};
+ghost use Rattle.std.specs.Of.Vec.{vec-len};
+ghost use Rattle.std.specs.Vec.{made};
 ghost use Rattle.words.specs.Division.{divided, linesOf, divisionOf};
 ghost use Rattle.words.specs.Reading.{UnlessMemory};
 use crate::classes::Class;
@@ -28,6 +30,7 @@ fn first_line(text: &[u8]) -> (&[u8], &[u8])
 // The lines of a text, numbered from 1, or a refusal where it is over a limit.
 pub fn split<'a>(heap: Global, text: &'a [u8]) -> Result<Vec<Line<'a>>, WordFault>
     ensures splits { λ r. ⌜ UnlessMemory (divisionOf r) (linesOf (now (text .entry))) ⌝ }
+    ensures few { λ r. ⌜ made r (λ v. vec-len v ≤ 256) ⌝ }
 {
     if text.len() > TEXT_BYTES {
         return Err(WordFault::TextTooLong);

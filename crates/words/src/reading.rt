@@ -5,6 +5,8 @@ ghost use mathlib.Core.Path.{_≡_};
 ghost use Prim.Native.Nat.{_≤_};
 ghost use lib.Chars.{codes};
 ghost use lib.ListN.{length};
+ghost use Rattle.std.specs.Of.Vec.{vec-len};
+ghost use Rattle.std.specs.Vec.{made};
 ghost use Rattle.words.specs.Reading.{codeLength, codeOf, wordsOf, tokensOf, lineOf, readingOf, UnlessMemory};
 ghost use Rattle.words.specs.Scan.{begins};
 use crate::classes::Class;
@@ -65,7 +67,8 @@ fn code_of(bytes: &[u8]) -> &[u8]
 // The words of a line's code.
 fn words_of<'a>(heap: Global, code: &'a [u8], line: u16) -> Result<Vec<Word<'a>>, WordFault>
     requires { ⌜ length (now code) ≤ 128 ⌝ }
-    ensures { λ r. ⌜ UnlessMemory (tokensOf r) (wordsOf line (now (code .entry))) ⌝ }
+    ensures reads { λ r. ⌜ UnlessMemory (tokensOf r) (wordsOf line (now (code .entry))) ⌝ }
+    ensures few { λ r. ⌜ made r (λ v. vec-len v ≤ length (now (code .entry))) ⌝ }
 {
     let mut words = Vec::new(heap);
     let mut at = 0;
@@ -84,6 +87,7 @@ fn words_of<'a>(heap: Global, code: &'a [u8], line: u16) -> Result<Vec<Word<'a>>
 // The words of a line, or what is wrong with it.
 pub fn read_line<'a>(heap: Global, line: Line<'a>) -> Result<Row<'a>, WordFault>
     ensures reads { λ r. ⌜ UnlessMemory (readingOf r) (lineOf (line .entry .number) (now (line .entry .bytes))) ⌝ }
+    ensures few { λ r. ⌜ made r (λ row. vec-len (row .words) ≤ 128) ⌝ }
 {
     let number = line.number;
     let bytes = line.bytes;

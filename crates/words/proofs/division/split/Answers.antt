@@ -14,7 +14,7 @@ loop-rest-holds c = rw (c .new-lines .ensures .items, c .new-lines .ensures .len
 
 pub returns-then-count-eq-TEXT-LINES : need.returns-then-count-eq-TEXT-LINES
 returns-then-count-eq-TEXT-LINES c =
-    record { splits = inr (too-many (c .loop-rest .inv) (c .if-text-gt-TEXT-BYTES .left) (omega (arith, c .len-count .ensures, c .if-count-eq-TEXT-LINES .taken)) (c .loop-rest-test .taken)) }
+    record { splits = inr (too-many (c .loop-rest .inv) (c .if-text-gt-TEXT-BYTES .left) (omega (arith, c .len-count .ensures, c .if-count-eq-TEXT-LINES .taken)) (c .loop-rest-test .taken)); few = tt }
 
 pub loop-rest-again : need.loop-rest-again
 loop-rest-again c =
@@ -25,4 +25,4 @@ loop-rest-again c =
     rw (items, len, c .len-count .ensures) (listed-as more (map-push numberedLine _ _))
 
 pub returns : need.returns
-returns c = record { splits = inr (all-lines (c .loop-rest .inv) (c .if-text-gt-TEXT-BYTES .left) (c .loop-rest-test .left)) }
+returns c = record { splits = inr (all-lines (c .loop-rest .inv) (c .if-text-gt-TEXT-BYTES .left) (c .loop-rest-test .left)); few = c .loop-rest .inv .few }

@@ -1,3 +1,4 @@
+use borrow.Author.Needs.{needs}
 use mathlib.Core.Path.{ap}
 use native.Mathlib.Omega.{arith}
 use lib.ListN.{length}
@@ -13,3 +14,6 @@ words-of-requires c κs = omega (arith, ap length (c .code-of-code .ensures), co
 pub cast-result-2 : need.cast-result-2
 cast-result-2 c =
     omega (arith, c .front-spaces .ensures, leading-le-length space (c .code-of-code .result .now), ap length (c .code-of-code .ensures), code-short (c .args .line .bytes .now))
+
+pub returns : need.returns
+returns c = record { reads = search needs; few = omega (arith, c .in-Continue-words .ensures tt .few, ap length (c .code-of-code .ensures), code-short (c .args .line .bytes .now)) }

@@ -1,0 +1,10 @@
+use mathlib.Core.List.{map}
+use Prim.Native.Nat.{_*_, _≤_}
+use lib.ListN.{drop}
+use Rattle.std.specs.Of.Vec.{vec-items}
+use Rattle.words.specs.Division.{numberedLine}
+use Rattle.listing.proofs.Rows.{Sofar}
+use Rattle.listing.proofs.push_lines.Given as given
+
+abbrev pub Inv-loop-line : given.InvT-loop-line
+Inv-loop-line l = (l .count ≤ 128 * l .line-index) × Sofar (vec-items (l .entry .out)) (vec-items (l .out)) (l .lines) (l .line-index) (l .count)

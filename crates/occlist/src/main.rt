@@ -1,0 +1,22 @@
+// occlist: checks an occam text from standard input and lists its words, or prints why it is refused.
+use faults::FaultDisplay;
+use listing::listing;
+use std::error::AnyError;
+use std::io::Read;
+use std::io::Write;
+use words::TEXT_BYTES;
+
+fn main(rt: LibcRuntime) -> Result<(), AnyError> {
+    let heap = rt.alloc();
+    let mut text = Vec::new(heap);
+    // One byte more than a text may have shows that it has too many.
+    let _ = rt.stdin().take(TEXT_BYTES as u64 + 1).read_to_end(&mut text)?;
+    match listing(heap, text.as_slice()) {
+        Ok(out) => rt.stdout().write_all(out.as_slice())?,
+        Err(refusal) => {
+            let fault = refusal.fault();
+            println!(rt, "{fault}")?
+        }
+    }
+    Ok(())
+}
