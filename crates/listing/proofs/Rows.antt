@@ -61,13 +61,13 @@ module _ {old new : List ℕ} {ls : List Line} {i n : ℕ} (sofar : Sofar old ne
       record {
         seen = sofar .seen ++ rowsOf line (r .level) (r .words);
         put =
-          e ∙ ap (λ l. new ++ rowsOf line (r .level) l) words ∙ ap (λ l. l ++ rowsOf line (r .level) (r .words)) (sofar .put)
-          ∙ append-assoc old (sofar .seen) _;
+            e ∙ ap (λ l. new ++ rowsOf line (r .level) l) words ∙ ap (λ l. l ++ rowsOf line (r .level) (r .words)) (sofar .put)
+            ∙ append-assoc old (sofar .seen) _;
         left =
-          sofar .left
-          ∙ ap (atop (sofar .seen) n) (at-drop-more (λ l. linesRows (map numberedLine l)) ls i d within ∙ ap (λ x. onward x (λ q. above line q (rest ls (i + 1)))) (sym is))
-          ∙ atop-above (sofar .seen) n line r (rest ls (i + 1))
-          ∙ ap (λ k. atop (sofar .seen ++ rowsOf line (r .level) (r .words)) (n + k) (rest ls (i + 1))) (sym many);
+            sofar .left
+            ∙ ap (atop (sofar .seen) n) (at-drop-more (λ l. linesRows (map numberedLine l)) ls i d within ∙ ap (λ x. onward x (λ q. above line q (rest ls (i + 1)))) (sym is))
+            ∙ atop-above (sofar .seen) n line r (rest ls (i + 1))
+            ∙ ap (λ k. atop (sofar .seen ++ rowsOf line (r .level) (r .words)) (n + k) (rest ls (i + 1))) (sym many);
       }
 
   pub lines-done : length ls ≤ i → Shows old new (linesRows (map numberedLine ls)) (Ok n)

@@ -32,14 +32,26 @@ fn kind_of(word: Word<'_>) -> &'static str
 }
 
 // The front of a word's row: line, level, byte and kind.
-fn row_front(heap: Global, line: u16, level: u8, byte: u16, kind: &str) -> Result<String, AllocError>
+fn row_front(
+    heap: Global,
+    line: u16,
+    level: u8,
+    byte: u16,
+    kind: &str,
+) -> Result<String, AllocError>
     ensures { λ r. ⌜ made r (λ s. string-bytes s ≡ frontOf line level byte (now (kind .entry))) ⌝ }
 {
     format!(heap, "{line} {level} {byte} {kind} ")
 }
 
 // Appends the row of one word.
-fn push_row(heap: Global, out: &mut Vec<u8>, line: u16, level: u8, word: Word<'_>) -> Result<(), AllocError>
+fn push_row(
+    heap: Global,
+    out: &mut Vec<u8>,
+    line: u16,
+    level: u8,
+    word: Word<'_>,
+) -> Result<(), AllocError>
     ensures { λ r. ⌜ made r (λ _. vec-items (now (out .exit)) ≡ vec-items (now (out .entry)) ++ rowOf line level (token (word .entry))) ⌝ }
 {
     let front = row_front(heap, line, level, word.byte(), kind_of(word))?;
@@ -50,7 +62,13 @@ fn push_row(heap: Global, out: &mut Vec<u8>, line: u16, level: u8, word: Word<'_
 }
 
 // Appends the rows of one line's words.
-fn push_rows(heap: Global, out: &mut Vec<u8>, line: u16, level: u8, words: &[Word<'_>]) -> Result<(), AllocError>
+fn push_rows(
+    heap: Global,
+    out: &mut Vec<u8>,
+    line: u16,
+    level: u8,
+    words: &[Word<'_>],
+) -> Result<(), AllocError>
     ensures { λ r. ⌜ made r (λ _. vec-items (now (out .exit)) ≡ vec-items (now (out .entry)) ++ rowsOf line level (map token (now (words .entry)))) ⌝ }
 {
     for word in words {

@@ -10,7 +10,9 @@ fn main(rt: LibcRuntime) -> Result<(), AnyError> {
     let heap = rt.alloc();
     let mut text = Vec::new(heap);
     // One byte more than a text may have shows that it has too many.
-    let _ = rt.stdin().take(TEXT_BYTES as u64 + 1).read_to_end(&mut text)?;
+    let _ = rt.stdin()
+        .take(TEXT_BYTES as u64 + 1)
+        .read_to_end(&mut text)?;
     match listing(heap, text.as_slice()) {
         Ok(out) => rt.stdout().write_all(out.as_slice())?,
         Err(refusal) => {

@@ -1,7 +1,14 @@
 pub mod Comments
+pub mod Cuts
+pub mod Divided
+pub mod Fronts
+pub mod Judged
 pub mod Keywords
+pub mod Lexemes
+pub mod Limited
 pub mod Numbers
+pub mod Readings
 pub mod Signs
 pub mod Sizes
+pub mod Spelled
 pub mod Turns
-pub mod Divided

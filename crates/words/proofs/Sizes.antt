@@ -61,7 +61,7 @@ word-within n i s t some e =
     cond-both (letter (getD s 0 0)) _ _ (λ r. r ≡ Ok t → Within (size t) s)
     (λ is f. taken (leading inName s) (size t) s (name-size n i _ t f) (front-within inName s some (or-left _ _ (or-left _ _ is))))
     (λ _ f. cond-both (digit (getD s 0 0)) _ _ (λ r. r ≡ Ok t → Within (size t) s)
-        (λ is g. taken (leading digit s) (size t) s (number-size n i _ t _ g) (front-within digit s some is))
-        (λ _ g. sign-size n i s t (signOf s) (sign-fits s) g)
-        f)
+    (λ is g. taken (leading digit s) (size t) s (number-size n i _ t _ g) (front-within digit s some is))
+    (λ _ g. sign-size n i s t (signOf s) (sign-fits s) g)
+    f)
     e

@@ -99,9 +99,9 @@ module _ {n : ℕ} {s : List ℕ} {at : ℕ} {ts : List Token} (within : at < le
       record {
         within = omega (arith, long, sized .1);
         split =
-          sofar .split
-          ∙ ap (beforeAll ts) (at-word n (at + 1) (drop at s) t (λ q. ne (sym head-is ∙ q)) is sized ∙ ap (λ l. before t (wordsFrom n 0 (at + 1 + size t) l)) (drop-drop (size t) at s) ∙ ap (λ j. before t (wordsFrom n 0 j (drop (at + size t) s))) place)
-          ∙ sym (all-more ts t _);
+            sofar .split
+            ∙ ap (beforeAll ts) (at-word n (at + 1) (drop at s) t (λ q. ne (sym head-is ∙ q)) is sized ∙ ap (λ l. before t (wordsFrom n 0 (at + 1 + size t) l)) (drop-drop (size t) at s) ∙ ap (λ j. before t (wordsFrom n 0 j (drop (at + size t) s))) place)
+            ∙ sym (all-more ts t _);
       }
 
 pub line-done : {n : ℕ} {s : List ℕ} {at : ℕ} {ts : List Token} → length s ≤ at → Sofar n s at ts → wordsOf n s ≡ Ok ts

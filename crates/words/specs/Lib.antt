@@ -5,3 +5,5 @@ pub mod Fault
 pub mod Scan
 pub mod Reading
 pub mod Division
+pub mod Spelling
+pub mod Limits

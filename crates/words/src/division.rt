@@ -6,6 +6,7 @@ ghost use lib.ListN.{length};
 ghost use Rattle.std.specs.Of.Vec.{vec-len};
 ghost use Rattle.std.specs.Vec.{made};
 ghost use Rattle.words.specs.Division.{divided, linesOf, divisionOf};
+ghost use Rattle.words.specs.Limits.{RightLines};
 ghost use Rattle.words.specs.Reading.{UnlessMemory};
 use crate::classes::Class;
 use crate::reading::Line;
@@ -24,12 +25,17 @@ fn first_line(text: &[u8]) -> (&[u8], &[u8])
     ensures shorter { λ r. ⌜ length (now (r .1)) < length (now (text .entry)) ⌝ }
 {
     let (line, rest) = text.split_at(Class::InLine.front(text));
-    if rest.is_empty() { (line, rest) } else { (line, &rest[1..]) }
+    if rest.is_empty() {
+        (line, rest)
+    } else {
+        (line, &rest[1..])
+    }
 }
 
 // The lines of a text, numbered from 1, or a refusal where it is over a limit.
 pub fn split<'a>(heap: Global, text: &'a [u8]) -> Result<Vec<Line<'a>>, WordFault>
     ensures splits { λ r. ⌜ UnlessMemory (divisionOf r) (linesOf (now (text .entry))) ⌝ }
+    ensures right { λ r. ⌜ RightLines (now (text .entry)) (divisionOf r) ⌝ }
     ensures few { λ r. ⌜ made r (λ v. vec-len v ≤ 256) ⌝ }
 {
     if text.len() > TEXT_BYTES {
@@ -43,7 +49,10 @@ pub fn split<'a>(heap: Global, text: &'a [u8]) -> Result<Vec<Line<'a>>, WordFaul
             return Err(WordFault::TooManyLines);
         }
         let (bytes, after) = first_line(rest);
-        lines.push(Line { number: (count + 1) as u16, bytes })?;
+        lines.push(Line {
+            number: (count + 1) as u16,
+            bytes,
+        })?;
         rest = after;
     }
     Ok(lines)

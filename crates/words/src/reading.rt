@@ -9,6 +9,7 @@ ghost use Rattle.std.specs.Of.Vec.{vec-len};
 ghost use Rattle.std.specs.Vec.{made};
 ghost use Rattle.words.specs.Reading.{codeLength, codeOf, wordsOf, tokensOf, lineOf, readingOf, UnlessMemory};
 ghost use Rattle.words.specs.Scan.{begins};
+ghost use Rattle.words.specs.Spelling.{Right};
 use crate::classes::Class;
 use crate::refusal::WordFault;
 use crate::refusal::WordFaultFromRefused;
@@ -87,6 +88,7 @@ fn words_of<'a>(heap: Global, code: &'a [u8], line: u16) -> Result<Vec<Word<'a>>
 // The words of a line, or what is wrong with it.
 pub fn read_line<'a>(heap: Global, line: Line<'a>) -> Result<Row<'a>, WordFault>
     ensures reads { λ r. ⌜ UnlessMemory (readingOf r) (lineOf (line .entry .number) (now (line .entry .bytes))) ⌝ }
+    ensures right { λ r. ⌜ Right (line .entry .number) (now (line .entry .bytes)) (readingOf r) ⌝ }
     ensures few { λ r. ⌜ made r (λ row. vec-len (row .words) ≤ 128) ⌝ }
 {
     let number = line.number;
@@ -96,7 +98,10 @@ pub fn read_line<'a>(heap: Global, line: Line<'a>) -> Result<Row<'a>, WordFault>
     }
     let printable = Class::Printable.front(bytes);
     if printable < bytes.len() {
-        return Err(WordFault::ByteOutside { line: number, byte: (printable + 1) as u16 });
+        return Err(WordFault::ByteOutside {
+            line: number,
+            byte: (printable + 1) as u16,
+        });
     }
     if bytes.len() > LINE_BYTES {
         return Err(WordFault::LineTooLong { line: number });
@@ -107,5 +112,8 @@ pub fn read_line<'a>(heap: Global, line: Line<'a>) -> Result<Row<'a>, WordFault>
         return Err(WordFault::Indentation { line: number });
     }
     let words = words_of(heap, code, number)?;
-    Ok(Row { level: (spaces / 2) as u8, words })
+    Ok(Row {
+        level: (spaces / 2) as u8,
+        words,
+    })
 }

@@ -41,7 +41,12 @@ impl WordFault {
             WordFault::UnknownSign { line, byte } => (5, Layer::Words, line, byte),
             WordFault::Memory => (0, Layer::Host, 0, 0),
         };
-        Fault { number, layer, line, byte }
+        Fault {
+            number,
+            layer,
+            line,
+            byte,
+        }
     }
 }
 

@@ -20,29 +20,98 @@ pub struct Reserved {
 }
 
 static KEYWORDS: [Reserved; 23] = [
-    Reserved { text: b"AFTER", keyword: Keyword::After },
-    Reserved { text: b"ALT", keyword: Keyword::Alt },
-    Reserved { text: b"AND", keyword: Keyword::And },
-    Reserved { text: b"AT", keyword: Keyword::At },
-    Reserved { text: b"CHAN", keyword: Keyword::Chan },
-    Reserved { text: b"FALSE", keyword: Keyword::False },
-    Reserved { text: b"IF", keyword: Keyword::If },
-    Reserved { text: b"INT", keyword: Keyword::Int },
-    Reserved { text: b"MINUS", keyword: Keyword::Minus },
-    Reserved { text: b"NOT", keyword: Keyword::Not },
-    Reserved { text: b"OF", keyword: Keyword::Of },
-    Reserved { text: b"OR", keyword: Keyword::Or },
-    Reserved { text: b"PAR", keyword: Keyword::Par },
-    Reserved { text: b"PLACE", keyword: Keyword::Place },
-    Reserved { text: b"PLUS", keyword: Keyword::Plus },
-    Reserved { text: b"PRI", keyword: Keyword::Pri },
-    Reserved { text: b"SEQ", keyword: Keyword::Seq },
-    Reserved { text: b"SKIP", keyword: Keyword::Skip },
-    Reserved { text: b"STOP", keyword: Keyword::Stop },
-    Reserved { text: b"TIMER", keyword: Keyword::Timer },
-    Reserved { text: b"TIMES", keyword: Keyword::Times },
-    Reserved { text: b"TRUE", keyword: Keyword::True },
-    Reserved { text: b"WHILE", keyword: Keyword::While },
+    Reserved {
+        text: b"AFTER",
+        keyword: Keyword::After,
+    },
+    Reserved {
+        text: b"ALT",
+        keyword: Keyword::Alt,
+    },
+    Reserved {
+        text: b"AND",
+        keyword: Keyword::And,
+    },
+    Reserved {
+        text: b"AT",
+        keyword: Keyword::At,
+    },
+    Reserved {
+        text: b"CHAN",
+        keyword: Keyword::Chan,
+    },
+    Reserved {
+        text: b"FALSE",
+        keyword: Keyword::False,
+    },
+    Reserved {
+        text: b"IF",
+        keyword: Keyword::If,
+    },
+    Reserved {
+        text: b"INT",
+        keyword: Keyword::Int,
+    },
+    Reserved {
+        text: b"MINUS",
+        keyword: Keyword::Minus,
+    },
+    Reserved {
+        text: b"NOT",
+        keyword: Keyword::Not,
+    },
+    Reserved {
+        text: b"OF",
+        keyword: Keyword::Of,
+    },
+    Reserved {
+        text: b"OR",
+        keyword: Keyword::Or,
+    },
+    Reserved {
+        text: b"PAR",
+        keyword: Keyword::Par,
+    },
+    Reserved {
+        text: b"PLACE",
+        keyword: Keyword::Place,
+    },
+    Reserved {
+        text: b"PLUS",
+        keyword: Keyword::Plus,
+    },
+    Reserved {
+        text: b"PRI",
+        keyword: Keyword::Pri,
+    },
+    Reserved {
+        text: b"SEQ",
+        keyword: Keyword::Seq,
+    },
+    Reserved {
+        text: b"SKIP",
+        keyword: Keyword::Skip,
+    },
+    Reserved {
+        text: b"STOP",
+        keyword: Keyword::Stop,
+    },
+    Reserved {
+        text: b"TIMER",
+        keyword: Keyword::Timer,
+    },
+    Reserved {
+        text: b"TIMES",
+        keyword: Keyword::Times,
+    },
+    Reserved {
+        text: b"TRUE",
+        keyword: Keyword::True,
+    },
+    Reserved {
+        text: b"WHILE",
+        keyword: Keyword::While,
+    },
 ];
 
 // The longest name in occam that we take, in bytes.
@@ -129,7 +198,11 @@ pub fn word_at<'a>(rest: &'a [u8], line: u16, byte: u16) -> Result<Word<'a>, Wor
             return Err(WordFault::NameTooLong { line, byte });
         }
         match keyword_of(text) {
-            Some(keyword) => Ok(Word::Keyword { keyword, text, byte }),
+            Some(keyword) => Ok(Word::Keyword {
+                keyword,
+                text,
+                byte,
+            }),
             None => Ok(Word::Name { text, byte }),
         }
     } else if Class::Digit.has(rest[0]) {

@@ -55,10 +55,25 @@ pub enum Sign {
 // A word of a line: the part of the line that it was read from, and the place of its first byte, counted from 1.
 #[derive(Clone, Copy)]
 pub enum Word<'a> {
-    Name { text: &'a [u8], byte: u16 },
-    Keyword { keyword: Keyword, text: &'a [u8], byte: u16 },
-    Number { value: i32, text: &'a [u8], byte: u16 },
-    Sign { sign: Sign, text: &'a [u8], byte: u16 },
+    Name {
+        text: &'a [u8],
+        byte: u16,
+    },
+    Keyword {
+        keyword: Keyword,
+        text: &'a [u8],
+        byte: u16,
+    },
+    Number {
+        value: i32,
+        text: &'a [u8],
+        byte: u16,
+    },
+    Sign {
+        sign: Sign,
+        text: &'a [u8],
+        byte: u16,
+    },
 }
 
 impl<'a> Word<'a> {
@@ -67,7 +82,10 @@ impl<'a> Word<'a> {
         ensures { λ r. ⌜ now r ≡ textOf (token (now (self .entry))) ⌝ }
     {
         match self {
-            Word::Name { text, .. } | Word::Keyword { text, .. } | Word::Number { text, .. } | Word::Sign { text, .. } => text,
+            Word::Name { text, .. }
+            | Word::Keyword { text, .. }
+            | Word::Number { text, .. }
+            | Word::Sign { text, .. } => text,
         }
     }
 
@@ -76,7 +94,10 @@ impl<'a> Word<'a> {
         ensures { λ r. ⌜ r ≡ placeOf (token (now (self .entry))) ⌝ }
     {
         match self {
-            Word::Name { byte, .. } | Word::Keyword { byte, .. } | Word::Number { byte, .. } | Word::Sign { byte, .. } => *byte,
+            Word::Name { byte, .. }
+            | Word::Keyword { byte, .. }
+            | Word::Number { byte, .. }
+            | Word::Sign { byte, .. } => *byte,
         }
     }
 }

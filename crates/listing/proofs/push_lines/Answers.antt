@@ -16,9 +16,10 @@ returns-in-Break-row c =
 pub loop-line-again : need.loop-line-again
 loop-line-again c =
     let words = c .in-Continue-row .row .words in
-    let many = c .len-count .ensures ∙ words .ok .0 ∙ sym (length-map (vec-items words) token) in
-    (omega (arith, c .loop-line .inv .0, c .len-count .ensures, c .in-Continue-row .ensures tt .few),
-     line-more (c .loop-line .inv .1) _ _ _ (c .loop-line-test .taken) (c .in-Continue-row .ensures tt .reads) (ap (map token) (c .as-slice .ensures .value)) many (c .in-Continue-push-rows .ensures tt))
+    let many = c .len-count .ensures ∙ words .ok .0 ∙ sym (length-map (vec-items words) token) in (
+      omega (arith, c .loop-line .inv .0, c .len-count .ensures, c .in-Continue-row .ensures tt .few),
+      line-more (c .loop-line .inv .1) _ _ _ (c .loop-line-test .taken) (c .in-Continue-row .ensures tt .reads) (ap (map token) (c .as-slice .ensures .value)) many (c .in-Continue-push-rows .ensures tt),
+    )
 
 pub returns : need.returns
 returns c = lines-done (c .loop-line .inv .1) (c .loop-line-test .left)

@@ -31,9 +31,10 @@ loop-at-again c =
     let turned = word-turn (c .loop-at-test .taken) (c .loop-at .inv .1) (token (c .in-Continue-word .word)) (c .if-code-at-eq32 .left) (c .in-Continue-word .ensures tt) in
     let ok = ap isOk (c .in-Continue-push .was tt) in
     let pushed = chosen _ _ _ _ (c .push .ensures .items) ok in
-    let more = chosen _ _ _ _ (c .push .ensures .len) ok in
-    (omega (arith, c .loop-at .inv .0, more, sized .0, ap length (c .text .ensures)),
-     turned-to (c .loop-at .at) _ _ turned (ap length (c .text .ensures)) (ap (map token) pushed ∙ map-push token _ _))
+    let more = chosen _ _ _ _ (c .push .ensures .len) ok in (
+      omega (arith, c .loop-at .inv .0, more, sized .0, ap length (c .text .ensures)),
+      turned-to (c .loop-at .at) _ _ turned (ap length (c .text .ensures)) (ap (map token) pushed ∙ map-push token _ _),
+    )
 
 pub returns : need.returns
 returns c =
