@@ -1,0 +1,2 @@
+pub mod Int
+pub mod Laws

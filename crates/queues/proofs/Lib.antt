@@ -1,0 +1,5 @@
+pub mod Counts
+pub mod Rounds
+pub mod Takings
+pub mod Times
+pub mod Words
