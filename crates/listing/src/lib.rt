@@ -2,14 +2,18 @@
 ghost use mathlib.Core.List.{_++_, map};
 ghost use mathlib.Core.Path.{_≡_};
 ghost use Prim.Native.Nat.{_≤_};
+ghost use lib.Chars.{codes};
 ghost use lib.ListN.{length};
 ghost use Rattle.std.specs.Of.String.{string-bytes};
 ghost use Rattle.std.specs.Of.Vec.{vec-items};
 ghost use Rattle.std.specs.Vec.{made};
-ghost use Rattle.listing.specs.Listing.{kindName, frontOf, rowOf, rowsOf, linesRows, Shows, closing, listingOf, bytesOf};
+ghost use Rattle.listing.specs.Listing.{kindName, frontOf, rowOf, rowsOf, linesRows, Shows, closing, listingOf, bytesOf, printed};
+ghost use Rattle.faults.specs.Refusal.{refusalLine};
 ghost use Rattle.words.specs.Division.{numberedLine};
 ghost use Rattle.words.specs.Reading.{UnlessMemory};
 ghost use Rattle.words.specs.Token.{token};
+use faults::Fault;
+use faults::FaultDisplay;
 use std::alloc::AllocError;
 use std::alloc::Global;
 use words::Line;
@@ -109,4 +113,25 @@ pub fn listing(heap: Global, text: &[u8]) -> Result<Vec<u8>, WordFault>
     let end = closing_line(heap, lines.len(), words)?;
     out.extend_from_slice(end.as_bytes())?;
     Ok(out)
+}
+
+// The line of a refusal.
+fn refusal_line(heap: Global, fault: Fault) -> Result<String, AllocError>
+    ensures { λ r. ⌜ made r (λ s. string-bytes s ≡ refusalLine fault ++ codes "\n") ⌝ }
+{
+    format!(heap, "{fault}\n")
+}
+
+// What occlist prints of a text: its listing, or the line of its first fault.
+pub fn printout(heap: Global, text: &[u8]) -> Result<Vec<u8>, AllocError>
+    ensures { λ r. ⌜ made r (λ v. vec-items v ≡ printed (listingOf (now (text .entry)))) ⌝ }
+{
+    match listing(heap, text) {
+        Ok(out) => Ok(out),
+        Err(WordFault::Memory) => Err(AllocError),
+        Err(refusal) => {
+            let line = refusal_line(heap, refusal.fault())?;
+            Ok(line.into_bytes())
+        }
+    }
 }

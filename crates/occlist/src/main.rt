@@ -1,6 +1,5 @@
 // occlist: checks an occam text from standard input and lists its words, or prints why it is refused.
-use faults::FaultDisplay;
-use listing::listing;
+use listing::printout;
 use std::error::AnyError;
 use std::io::Read;
 use std::io::Write;
@@ -13,12 +12,7 @@ fn main(rt: LibcRuntime) -> Result<(), AnyError> {
     let _ = rt.stdin()
         .take(TEXT_BYTES as u64 + 1)
         .read_to_end(&mut text)?;
-    match listing(heap, text.as_slice()) {
-        Ok(out) => rt.stdout().write_all(out.as_slice())?,
-        Err(refusal) => {
-            let fault = refusal.fault();
-            println!(rt, "{fault}")?
-        }
-    }
+    let out = printout(heap, text.as_slice())?;
+    rt.stdout().write_all(out.as_slice())?;
     Ok(())
 }
