@@ -1,5 +1,4 @@
 // What a refusal tells: a number, the layer that refused, and a place in the text.
-ghost use mathlib.Core.Path.{_≡_};
 ghost use Rattle.std.specs.declared.option.Option.the-variants.{Some};
 ghost use Rattle.faults.specs.Refusal.{layerName, refusalLine};
 use std::fmt;

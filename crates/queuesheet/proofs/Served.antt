@@ -1,7 +1,7 @@
 -- Two numbers put into an empty queue, and the order in which they leave it. Assumes nothing.
 use mathlib.Core.Path.{_≡_, ap, sym, subst, _∙_}
 use mathlib.Core.Logic.{⊎-elim}
-use mathlib.Core.Bool.{true, cond}
+use mathlib.Core.Bool.{cond}
 use Prim.Native.Nat.{ℕ, _<_}
 use native.Mathlib.Omega.{arith}
 use lib.Dec.{eqb}
@@ -11,8 +11,8 @@ use Rattle.std.proofs.shelf.Tests.{cases-order}
 use Rattle.std.proofs.shelf.Ways.{tells}
 use Rattle.queues.specs.Bits.{bit}
 use Rattle.queues.specs.Lowest.{GivesLowest}
-use Rattle.queues.specs.Meaning.{Empty, Puts, Takes, welcome}
-use Rattle.queues.specs.Pair.{FirstBeforeSecond, Routes, joint}
+use Rattle.queues.specs.Meaning.{Empty, Puts, Takes}
+use Rattle.queues.specs.Pair.{FirstBeforeSecond, Routes}
 use Rattle.queues.specs.declared.joined.Pair.{Pair}
 
 -- one number is held, once

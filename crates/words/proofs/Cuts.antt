@@ -1,5 +1,5 @@
 -- What stands before the comment, and the spaces before the first word.
-use mathlib.Core.Bool.{Bool, true, false}
+use mathlib.Core.Bool.{true, false}
 use mathlib.Core.List.{List, [], _∷_, _++_}
 use mathlib.Core.Logic.{_⊎_, inl, inr, ⊎-elim}
 use mathlib.Core.Path.{_≡_, refl, sym, ap, subst, _∙_}
@@ -17,7 +17,7 @@ use Rattle.words.specs.Reading.{codeLength, codeOf}
 use Rattle.words.specs.Scan.{begins}
 use Rattle.words.specs.Spelling.{Every, Code, Indented}
 use Rattle.words.proofs.Comments.{code-within}
-use Rattle.words.proofs.Fronts.{StopsAt, every-front, front-is, first-other}
+use Rattle.words.proofs.Fronts.{every-front, front-is, first-other}
 
 -- nothing, or a comment
 abbrev Comment : List ℕ → Type 0

@@ -1,12 +1,12 @@
 -- A line is accepted exactly when no fault is true of it, and refused by the first that is.
-use mathlib.Core.Bool.{Bool, true, false, _&&_, _||_}
-use mathlib.Core.List.{List, [], _∷_, _++_}
+use mathlib.Core.Bool.{true, false, _||_}
+use mathlib.Core.List.{List, []}
 use mathlib.Core.Logic.{_⊎_, inl, inr, ⊎-elim}
 use mathlib.Core.Path.{_≡_, refl, sym, ap, subst, _∙_}
 use Prim.Native.Nat.{ℕ, _+_, _*_, _/_, _%_, _≤_, _<_}
 use native.Mathlib.Omega.{arith}
 use lib.Dec.{ltb, eqb}
-use lib.ListN.{length, take, drop, getD}
+use lib.ListN.{length, take}
 use Rattle.std.proofs.shelf.Lists.{length-take-le}
 use Rattle.std.proofs.shelf.Tests.{cond-both, both-ways, and-parts, and-from, and-cases, or-cases, or-left, or-right, or-parts, ltb-true, ltb-false, lt-ltb, eqb-true, eqb-false, eq-eqb}
 use Rattle.std.specs.shelf.Lists.{leading}
@@ -15,7 +15,7 @@ use Rattle.std.specs.declared.result.Result.the-variants.{Ok, Err}
 use Rattle.words.specs.Bytes.{printable, space}
 use Rattle.words.specs.Fault.{faultOf}
 use Rattle.words.specs.Reading.{Reading, codeOf, wordsOf, misplaced, levelled, lineOf, UnlessMemory}
-use Rattle.words.specs.Spelling.{Every, Code, Indented, Reads, Misspelled, longName, bigNumber, noSign, Obeys, Faulty, textTooLong, byteOutside, lineTooLong, indentation, misspelled, Right}
+use Rattle.words.specs.Spelling.{Every, Code, Indented, Reads, Misspelled, longName, bigNumber, noSign, Faulty, textTooLong, byteOutside, lineTooLong, indentation, misspelled, Right}
 use Rattle.words.specs.Token.{Token}
 use Rattle.words.specs.declared.refusal.WordFault.{WordFault}
 use Rattle.words.specs.declared.refusal.WordFault.the-variants.{ByteOutside, Indentation}

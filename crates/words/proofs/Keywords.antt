@@ -1,7 +1,7 @@
 -- One turn of the search through the keywords.
 use mathlib.Core.Path.{_≡_, sym, ap, _∙_}
 use mathlib.Core.Bool.{Bool, cond}
-use mathlib.Core.List.{List, [], _∷_}
+use mathlib.Core.List.{List}
 use Prim.Native.Nat.{ℕ, _+_, _<_}
 use lib.ListN.{length, getD, drop}
 use Rattle.std.specs.shelf.Text.{sameBytes}
@@ -10,7 +10,7 @@ use Rattle.std.proofs.shelf.Lists.{at-drop-more}
 use Rattle.std.proofs.shelf.Equals.{sameBytes-decides}
 use Rattle.std.proofs.shelf.Ways.{same-from-decides}
 use Rattle.std.specs.declared.option.Option.{Option}
-use Rattle.std.specs.declared.option.Option.the-variants.{Some, None}
+use Rattle.std.specs.declared.option.Option.the-variants.{Some}
 use Rattle.words.specs.declared.vocabulary.Keyword.{Keyword}
 use Rattle.words.specs.declared.scan.Reserved.{Reserved}
 use Rattle.words.specs.Scan.{listed, rows}

@@ -1,9 +1,9 @@
 -- What the first byte of a word says, and what the tables of keywords and signs hold.
 use mathlib.Core.Bool.{Bool, true, false, _&&_}
 use mathlib.Core.List.{List, [], _∷_, _++_}
-use mathlib.Core.Logic.{⊎-elim, inl, inr}
-use mathlib.Core.Path.{_≡_, refl, sym, ap, subst, _∙_}
-use Prim.Native.Nat.{ℕ, _+_, _≤_, _<_}
+use mathlib.Core.Logic.{⊎-elim}
+use mathlib.Core.Path.{_≡_, refl, sym, ap, _∙_}
+use Prim.Native.Nat.{ℕ, _≤_, _<_}
 use native.Mathlib.Omega.{arith}
 use lib.Dec.{leb, ltb, eqb}
 use lib.ListN.{length, getD, take}
@@ -11,11 +11,10 @@ use Rattle.std.specs.Options.{isSome}
 use Rattle.std.specs.shelf.Text.{sameBytes}
 use Rattle.std.proofs.shelf.Equals.{sameBytes-decides}
 use Rattle.std.proofs.shelf.Tests.{cond-both, and-parts, or-cases, leb-true, eqb-true}
-use Rattle.std.specs.declared.option.Option.{Option}
-use Rattle.std.specs.declared.option.Option.the-variants.{Some, None}
+use Rattle.std.specs.declared.option.Option.the-variants.{Some}
 use Rattle.words.specs.Bytes.{letter, digit, inName}
 use Rattle.words.specs.Scan.{listed, keywords, keywordOf, begins, opening, signs, signOf}
-use Rattle.words.specs.Spelling.{Every, NameText, NumberText, WordText, asName, asNumber, asSign, Longest}
+use Rattle.words.specs.Spelling.{Every, NameText, asSign, Longest}
 use Rattle.words.specs.Vocabulary.{keywordText, signText}
 use Rattle.words.specs.declared.vocabulary.Keyword.{Keyword}
 use Rattle.words.specs.declared.vocabulary.Keyword.the-variants as key

@@ -8,16 +8,15 @@ use native.Mathlib.Omega.{arith}
 use lib.Dec.{eqb}
 use lib.ListN.{length, getD, drop}
 use Rattle.std.proofs.shelf.Lists.{drop-at, length-append}
-use Rattle.std.proofs.shelf.Tests.{cond-both, eqb-true, eqb-false}
+use Rattle.std.proofs.shelf.Tests.{eqb-true, eqb-false}
 use Rattle.std.specs.declared.result.Result.{Result}
 use Rattle.std.specs.declared.result.Result.the-variants.{Ok, Err}
-use Rattle.words.specs.Reading.{before, onward, wordsFrom}
+use Rattle.words.specs.Reading.{before, wordsFrom}
 use Rattle.words.specs.Scan.{wordAt}
 use Rattle.words.specs.Spelling.{Spelled, Longest, Reads, nothing, space, word, Misspelled, longName, bigNumber, noSign}
 use Rattle.words.specs.Token.{Token, textOf, placeOf}
 use Rattle.words.specs.declared.refusal.WordFault.{WordFault}
 use Rattle.words.specs.declared.refusal.WordFault.the-variants.{UnknownSign}
-use Rattle.words.proofs.Signs.{Within}
 use Rattle.words.proofs.Sizes.{size, word-within}
 use Rattle.words.proofs.Spelled.{Found, word-sound, spelled-at, misspelled-at}
 use Rattle.words.proofs.Turns.{beforeAll, at-space, at-fault, at-word}

@@ -5,13 +5,13 @@ use mathlib.Core.Path.{_≡_, refl, sym, ap, subst, _∙_}
 use Prim.Native.Nat.{ℕ, _+_, _≤_, _<_}
 use native.Mathlib.Numerals.{one-add}
 use native.Mathlib.Omega.{arith}
-use lib.Dec.{ltb, eqb}
-use lib.IntN.{ℤ, pos}
+use lib.Dec.{ltb}
+use lib.IntN.{pos}
 use lib.ListN.{length, getD, take, drop}
 use Rattle.std.specs.Options.{isSome}
 use Rattle.std.specs.shelf.Lists.{leading}
 use Rattle.std.proofs.shelf.Lists.{take-at, take-append-drop, append-assoc, length-append}
-use Rattle.std.proofs.shelf.Tests.{cond-true, cond-false, cond-both, both-ways, or-left, ltb-true, ltb-false, lt-ltb, le-ltb, eqb-false}
+use Rattle.std.proofs.shelf.Tests.{cond-true, cond-false, cond-both, both-ways, or-left, ltb-true, ltb-false, lt-ltb, le-ltb}
 use Rattle.std.specs.declared.option.Option.{Option}
 use Rattle.std.specs.declared.option.Option.the-variants.{Some, None}
 use Rattle.std.specs.declared.result.Result.{Result}
@@ -25,7 +25,7 @@ use Rattle.words.specs.declared.refusal.WordFault.{WordFault}
 use Rattle.words.specs.declared.vocabulary.Keyword.{Keyword}
 use Rattle.words.specs.declared.vocabulary.Sign.{Sign}
 use Rattle.words.proofs.Fronts.{StopsAt, every-front, front-stops, front-is, every-at, every-more}
-use Rattle.words.proofs.Lexemes.{letter-range, digit-range, Head, sign-head, front-head, long-sign, sign-longest, sign-found, sign-text, keyword-text, Known, keyword-known}
+use Rattle.words.proofs.Lexemes.{letter-range, digit-range, sign-head, front-head, long-sign, sign-longest, sign-found, sign-text, keyword-text, keyword-known}
 
 -- the first byte of a name, a number or a sign
 name-head : (s : List ℕ) → NameText s → letter (getD s 0 0) ≡ true

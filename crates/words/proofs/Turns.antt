@@ -12,7 +12,7 @@ use Rattle.std.specs.declared.result.Result.{Result}
 use Rattle.std.specs.declared.result.Result.the-variants.{Ok, Err}
 use Rattle.words.specs.Reading.{before, onward, wordsFrom, wordsOf}
 use Rattle.words.specs.Scan.{wordAt}
-use Rattle.words.specs.Token.{Token, textOf}
+use Rattle.words.specs.Token.{Token}
 use Rattle.words.specs.declared.refusal.WordFault.{WordFault}
 use Rattle.words.proofs.Signs.{Within}
 use Rattle.words.proofs.Sizes.{size, word-within}

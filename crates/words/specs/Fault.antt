@@ -1,7 +1,6 @@
 -- What the refusals of this layer give: number, layer, line and byte.
 use Prim.Native.Nat.{ℕ}
 use Rattle.faults.specs.declared.Fault.{Fault}
-use Rattle.faults.specs.declared.Layer.{Layer}
 use Rattle.faults.specs.declared.Layer.the-variants.{Words, Host}
 use Rattle.words.specs.declared.refusal.WordFault.{WordFault}
 use Rattle.words.specs.declared.refusal.WordFault.the-variants.{TextTooLong, TooManyLines, ByteOutside, LineTooLong, Indentation, NameTooLong, NumberTooBig, UnknownSign, Memory}

@@ -1,5 +1,5 @@
 -- The keywords and signs of the language, as they are written.
-use mathlib.Core.List.{List, [], _∷_}
+use mathlib.Core.List.{List}
 use Prim.Native.Nat.{ℕ}
 use lib.Chars.{codes}
 use Rattle.words.specs.declared.vocabulary.Keyword.{Keyword}

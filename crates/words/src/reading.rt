@@ -1,6 +1,4 @@
 // The words of a line.
-ghost use mathlib.Core.List.{map};
-ghost use mathlib.Core.Logic.{_⊎_};
 ghost use mathlib.Core.Path.{_≡_};
 ghost use Prim.Native.Nat.{_≤_};
 ghost use lib.Chars.{codes};

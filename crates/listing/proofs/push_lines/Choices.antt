@@ -1,8 +1,5 @@
-use mathlib.Core.List.{map}
 use Prim.Native.Nat.{_*_, _≤_}
-use lib.ListN.{drop}
 use Rattle.std.specs.Of.Vec.{vec-items}
-use Rattle.words.specs.Division.{numberedLine}
 use Rattle.listing.proofs.Rows.{Sofar}
 use Rattle.listing.proofs.push_lines.Given as given
 

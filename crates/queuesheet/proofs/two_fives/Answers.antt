@@ -2,7 +2,6 @@ use mathlib.Core.Path.{_≡_, ap, _∙_}
 use native.Mathlib.Omega.{arith}
 use Rattle.queues.specs.Lists.{times}
 use Rattle.queues.specs.Lowest.{marked}
-use Rattle.queues.specs.Pair.{joint}
 use Rattle.queues.specs.Ring.{line}
 use Rattle.queues.specs.declared.lowest.LowestFirst.{LowestFirst}
 use Rattle.queues.specs.declared.oldest.Ring.{Ring}

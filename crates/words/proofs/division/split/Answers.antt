@@ -1,5 +1,5 @@
 use mathlib.Core.Logic.{inr}
-use mathlib.Core.Path.{refl, sym, ap, _∙_}
+use mathlib.Core.Path.{refl, ap, _∙_}
 use mathlib.Core.List.{List, map}
 use Prim.Native.Nat.{ℕ}
 use native.Mathlib.Omega.{arith}
@@ -12,7 +12,7 @@ use Rattle.std.specs.declared.result.Result.the-variants.{Ok, Err}
 use Rattle.words.specs.Division.{linesOf, numberedLine}
 use Rattle.words.specs.Reading.{UnlessMemory}
 use Rattle.words.specs.declared.refusal.WordFault.{WordFault}
-use Rattle.words.specs.declared.refusal.WordFault.the-variants.{TextTooLong, TooManyLines}
+use Rattle.words.specs.declared.refusal.WordFault.the-variants.{TooManyLines}
 use Rattle.words.proofs.Divided.{one-more, listed-as, too-many, all-lines}
 use Rattle.words.proofs.Limited.{limited}
 use Rattle.words.proofs.division.split.Needs as need

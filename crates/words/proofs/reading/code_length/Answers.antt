@@ -1,4 +1,4 @@
-use mathlib.Core.Path.{sym, _∙_}
+use mathlib.Core.Path.{sym}
 use native.Mathlib.Omega.{arith}
 use Rattle.words.proofs.Comments.{found, passed, no-comment}
 use Rattle.words.proofs.reading.code_length.Needs as need

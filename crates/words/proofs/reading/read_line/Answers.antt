@@ -7,11 +7,9 @@ use lib.ListN.{length}
 use Rattle.std.specs.Of.Vec.{vec-items}
 use Rattle.std.proofs.shelf.Results.{err-from-errBy}
 use Rattle.std.proofs.shelf.Sums.{leading-le-length}
-use Rattle.std.specs.declared.result.Result.{Result}
 use Rattle.std.specs.declared.result.Result.the-variants.{Ok, Err}
 use Rattle.words.specs.Bytes.{space}
-use Rattle.words.specs.Reading.{Reading, codeOf, lineOf, UnlessMemory}
-use Rattle.words.specs.Spelling.{Right}
+use Rattle.words.specs.Reading.{Reading, lineOf, UnlessMemory}
 use Rattle.words.specs.Token.{token}
 use Rattle.words.specs.declared.refusal.WordFault.{WordFault}
 use Rattle.words.specs.declared.refusal.WordFault.the-variants.{TextTooLong, ByteOutside, LineTooLong, Indentation}

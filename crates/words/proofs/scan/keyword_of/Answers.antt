@@ -1,4 +1,3 @@
-use borrow.Author.Needs.{needs}
 use Rattle.words.specs.Scan.{keywordOf}
 use Rattle.words.proofs.scan.keyword_of.Needs as need
 
