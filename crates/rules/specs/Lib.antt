@@ -1,0 +1,12 @@
+pub mod Types
+pub mod Answers
+pub mod Functions
+pub mod Flowchart
+pub mod Primary
+pub mod WellFormed
+pub mod Turns
+pub mod Calls
+pub mod History
+pub mod Promise
+pub mod Examples
+pub mod Wrong
