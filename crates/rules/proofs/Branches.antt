@@ -69,3 +69,9 @@ others-from p e (a ∷ bs) h =
     and-from (eqb (a .process) p || e (a .process)) (othersEnded p e bs)
     (changed-case e p true (a .process) (λ v. v ≡ true → (eqb (a .process) p || e (a .process)) ≡ true) (λ i j. or-left (eqb (a .process) p) (e (a .process)) (eq-eqb (a .process) p i)) (λ i j. or-right (eqb (a .process) p) (e (a .process)) j) (h .0))
     (others-from p e bs (h .1))
+
+-- a branch of a PAR is among its processes
+pub in-processes : (p : ℕ) (bs : List Branch) (b : Branch) → In b bs → p ≡ b .process → In p (map (λ a. a .process) bs)
+in-processes p [] b i e = i
+in-processes p (a ∷ bs) b (inl j) e = inl (e ∙ ap (λ x. x .process) j)
+in-processes p (a ∷ bs) b (inr j) e = inr (in-processes p bs b j e)

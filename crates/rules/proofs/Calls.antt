@@ -1,7 +1,7 @@
 -- Load, step, offer and take keep the tables sound and the queue in step with them, and their answers mean what they say.
 use mathlib.Core.Path.{_∙_, ap, fun-ext, refl, subst, sym}
 use native.Mathlib.Omega.{arith}
-use Rattle.rules.specs.Types.{Absent, Answer, At, Bool, End, Ended, Err, Finished, Halted, Held, Holding, Incoming, Line, LinkHolds, List, Moved, NoLink, NoOutput, None, Ok, Outgoing, Passed, Place, Refusal, Result, Slept, Some, Standing, Stuck, Taken, Waits, [], _<_, _≡_, _≢_, false, true, ℕ, ℤ}
+use Rattle.rules.specs.Types.{Absent, Answer, At, Bool, End, Ended, Err, Finished, Halted, Held, Holding, Incoming, Line, LinkHolds, List, Moved, NoLink, NoOutput, None, Ok, Outgoing, Passed, Place, Refusal, Result, Slept, Some, Standing, Stuck, Taken, Waits, [], _<_, _∷_, _≡_, _≢_, false, true, ℕ, ℤ}
 use Rattle.rules.specs.Calls.{Counts, Gives, IdleAnswer, Machine, Offer, StepBy, Take, afterTurn, allReady, atLink, awaits, finishes, idles, lowered, noLink, noProgram, offerTo, readied, sticks, takeFrom, turns}
 use Rattle.rules.specs.Flowchart.{Program, input, output}
 use Rattle.rules.specs.Functions.{changed}
@@ -45,9 +45,9 @@ module _ (pg : Program) (wf : WellFormed pg) where
 
   runs-on : (t t′ : Tables) (ts : List Told) (a : Answer) → Run pg (view t) ts → Effect pg t a t′ → Run pg (view t′) (alsoTold (Ok a) ts)
   runs-on t t′ ts (Halted p) u e = subst (λ s. Run pg s ts) (sym e) u
-  runs-on t t′ ts (Moved p) u e = fired u e
+  runs-on t t′ ts (Moved p) u e = fired u (e .2)
   runs-on t t′ ts (Slept p) u e = subst (λ s. Run pg s ts) (sym e) u
-  runs-on t t′ ts (Passed p c v) u e = fired u e
+  runs-on t t′ ts (Passed p c v) u e = fired u (e .2)
   runs-on t t′ ts (Ended p) u e = subst (λ s. Run pg s ts) (sym e) u
   runs-on t t′ ts Finished u e = elim e [ ]
   runs-on t t′ ts Waits u e = elim e [ ]
@@ -57,9 +57,9 @@ module _ (pg : Program) (wf : WellFormed pg) where
 
   effect-means : (t t′ : Tables) (a : Answer) → Effect pg t a t′ → StepMeans pg (view t) a (view t′)
   effect-means t t′ (Halted p) e = subst (StepMeans pg (view t) (Halted p)) (sym e) (halted p)
-  effect-means t t′ (Moved p) e = moved p e
+  effect-means t t′ (Moved p) e = moved p (e .1) (e .2)
   effect-means t t′ (Slept p) e = subst (StepMeans pg (view t) (Slept p)) (sym e) (slept p)
-  effect-means t t′ (Passed p c v) e = passed p c v e
+  effect-means t t′ (Passed p c v) e = passed p c v (e .1) (e .2)
   effect-means t t′ (Ended p) e = subst (StepMeans pg (view t) (Ended p)) (sym e) (ended p)
   effect-means t t′ Finished e = elim e [ ]
   effect-means t t′ Waits e = elim e [ ]
@@ -125,8 +125,8 @@ module _ (pg : Program) (wf : WellFormed pg) where
           let nd : pg .node (b .lineNumber) ≡ input c (variableAt pg (m .tables) p) (follower pg (m .tables) p) = b .isInput ∙ (ap (λ y. input c y (b .to)) (sym x-is) ∙ ap (input c (variableAt pg (m .tables) p)) (sym to-is)) in
           let path : changed (changed (λ d. heldValue (m .tables .channel d)) c (Some x)) c None ≡ (λ d. heldValue (changed (m .tables .channel) c empty d)) = changed-twice (λ d. heldValue (m .tables .channel d)) c (Some x) None ∙ sym (fun-ext (λ d. changed-shown heldValue (m .tables .channel) c empty d)) in
           let put-first : Puts pg (view (m .tables)) c x (fills (view (m .tables)) c (Some x)) = puts a kd (ap heldValue e) in
-          let in-then : Fires pg (fills (view (m .tables)) c (Some x)) (Some (sent c x)) (view (go (write (mark (m .tables) c empty) (variableAt pg (m .tables) p) x) p (follower pg (m .tables) p))) =
-          subst (λ l. Fires pg (fills (view (m .tables)) c (Some x)) (Some (sent c x)) (record { variables = changed (m .tables .variables) (variableAt pg (m .tables) p) x; place = changed (m .tables .place) p (At (follower pg (m .tables) p)); link = l })) path
+          let in-then : Fires pg (fills (view (m .tables)) c (Some x)) (p ∷ []) (Some (sent c x)) (view (go (write (mark (m .tables) c empty) (variableAt pg (m .tables) p) x) p (follower pg (m .tables) p))) =
+          subst (λ l. Fires pg (fills (view (m .tables)) c (Some x)) (p ∷ []) (Some (sent c x)) (record { variables = changed (m .tables .variables) (variableAt pg (m .tables) p) x; place = changed (m .tables .place) p (At (follower pg (m .tables) p)); link = l })) path
           (linksIn p c (variableAt pg (m .tables) p) (follower pg (m .tables) p) x (byInput (b .lineNumber) (b .stands) nd) (changed-here (λ d. heldValue (m .tables .channel d)) c (Some x))) in
           record {
             same-program = refl;
@@ -204,8 +204,8 @@ module _ (pg : Program) (wf : WellFormed pg) where
           let to-is : follower pg (m .tables) p ≡ b .to = follower-is pg wf (m .tables) (v .ready) (v .sound) p (b .lineNumber) (output c (b .expression) (b .to)) (b .stands) (b .isOutput) in
           let ins : Inside pg p (follower pg (m .tables) p) = subst (Inside pg p) (sym to-is) (lead pg wf (m .tables) (v .ready) (v .sound) p (b .lineNumber) (output c (b .expression) (b .to)) (b .stands) (b .isOutput)) in
           let s2 = go-op pg wf (mark (m .tables) c empty) (changed (v .ready) p true) s1 p (Line (b .lineNumber)) (follower pg (m .tables) p) (changed-here (v .ready) p true) (b .stands) ins fp in
-          let out : LinkOut pg (view (m .tables)) (sent c x) (view (go (mark (m .tables) c empty) p (follower pg (m .tables) p))) =
-          subst (λ l. LinkOut pg (view (m .tables)) (sent c x) (record { variables = m .tables .variables; place = changed (m .tables .place) p (At (follower pg (m .tables) p)); link = l }))
+          let out : LinkOut pg (view (m .tables)) p (sent c x) (view (go (mark (m .tables) c empty) p (follower pg (m .tables) p))) =
+          subst (λ l. LinkOut pg (view (m .tables)) p (sent c x) (record { variables = m .tables .variables; place = changed (m .tables .place) p (At (follower pg (m .tables) p)); link = l }))
           (sym (fun-ext (changed-hidden heldValue (m .tables .channel) c empty (sym (ap heldValue e)))))
           (linksOut p c a (follower pg (m .tables) p) x kd (record { lineNumber = b .lineNumber; expression = b .expression; stands = b .stands; isOutput = b .isOutput ∙ ap (output c (b .expression)) (sym to-is); hasValue = b .hasValue })) in
           record {

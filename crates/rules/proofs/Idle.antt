@@ -61,30 +61,30 @@ module _ (pg : Program) (t : Tables) (r : ℕ → Bool) (so : Sound pg t r) (idl
         which (inl f) = let g : intValue (t .variables) (a .expression) ≡ Some v = ap (λ z. intValue z (a .expression)) (sym ev) ∙ a .hasValue in let z : _≡_ {A = ℕ} 0 1 = cc in absurd (omega arith)
         which (inr w) = w
 
-    pub no-fire : ((c : ℕ) (v : ℤ) → s .link c ≡ Some v → (p : ℕ) → (t .channel c ≡ reader p) ⊎ (t .channel c ≡ chooser p) → ⊥) → (l : Option Told) (s′ : State) → Fires pg s l s′ → ⊥
-    no-fire lk l s′ (assigns p n x e to v st nd val) =
+    pub no-fire : ((c : ℕ) (v : ℤ) → s .link c ≡ Some v → (p : ℕ) → (t .channel c ≡ reader p) ⊎ (t .channel c ≡ chooser p) → ⊥) → (ps : List ℕ) (l : Option Told) (s′ : State) → Fires pg s ps l s′ → ⊥
+    no-fire lk ps l s′ (assigns p n x e to v st nd val) =
         let a : intValue (t .variables) e ≡ None = rests-as p n (assignment x e to) (here p (At (Line n)) st) nd in
         let b : intValue (t .variables) e ≡ Some v = ap (λ z. intValue z e) (sym ev) ∙ val in
         let z : _≡_ {A = ℕ} 0 1 = cc in omega arith
-    no-fire lk l s′ (skips p n to st nd) = rests-as p n (skip to) (here p (At (Line n)) st) nd
-    no-fire lk l s′ (tests p n e y o b st nd val) =
+    no-fire lk ps l s′ (skips p n to st nd) = rests-as p n (skip to) (here p (At (Line n)) st) nd
+    no-fire lk ps l s′ (tests p n e y o b st nd val) =
         let a : truthValue (t .variables) e ≡ None = rests-as p n (test e y o) (here p (At (Line n)) st) nd in
         let c : truthValue (t .variables) e ≡ Some b = ap (λ z. truthValue z e) (sym ev) ∙ val in
         let z : _≡_ {A = ℕ} 0 1 = cc in omega arith
-    no-fire lk l s′ (communicates p q c x to to′ v rc sn) = which (receives-named p c x to rc)
+    no-fire lk ps l s′ (communicates p q c x to to′ v rc sn) = which (receives-named p c x to rc)
       where
         which : (t .channel c ≡ reader p) ⊎ (t .channel c ≡ chooser p) → ⊥
         which (inl e) = let w = sends-named q c v to′ sn in let u = w .1 in let z : _≡_ {A = ℕ} 0 1 = cc in omega arith
         which (inr e) = let w = sends-named q c v to′ sn in let u = w .1 in let z : _≡_ {A = ℕ} 0 1 = cc in omega arith
-    no-fire lk l s′ (linksIn p c x to v rc e) = lk c v e p (receives-named p c x to rc)
-    no-fire lk l s′ (takesSkip p n gs b to st nd vd i tr) = which (rests-as p n (alt gs) (here p (At (Line n)) st) nd)
+    no-fire lk ps l s′ (linksIn p c x to v rc e) = lk c v e p (receives-named p c x to rc)
+    no-fire lk ps l s′ (takesSkip p n gs b to st nd vd i tr) = which (rests-as p n (alt gs) (here p (At (Line n)) st) nd)
       where
         which : (allValued (t .variables) gs ≡ false) ⊎ Chosen (t .variables) (t .channel) p gs → ⊥
         which (inl f) = let g : allValued (t .variables) gs ≡ true = valued-from (t .variables) gs (subst (Valued gs) ev vd) in let z : _≡_ {A = ℕ} 0 1 = cc in omega arith
         which (inr ch) = chosen-skips (t .variables) (t .channel) p gs b to ch i (ap (λ z. truthValue z b) (sym ev) ∙ tr)
-    no-fire lk l s′ (passesPar p n to st nd) = rests-as p n (par [] to) (here p (At (Line n)) st) nd
-    no-fire lk l s′ (startsPar p n b bs to st nd) = rests-as p n (par (b ∷ bs) to) (here p (At (Line n)) st) nd
-    no-fire lk l s′ (joins p n bs to st nd al) =
+    no-fire lk ps l s′ (passesPar p n to st nd) = rests-as p n (par [] to) (here p (At (Line n)) st) nd
+    no-fire lk ps l s′ (startsPar p n b bs to st nd) = rests-as p n (par (b ∷ bs) to) (here p (At (Line n)) st) nd
+    no-fire lk ps l s′ (joins p n bs to st nd al) =
         so .unjoined p n bs to (here p (Holding n) st) nd
         (all-map (λ b. s .place (b .process) ≡ At End) (λ b. t .ended (b .process) ≡ true) bs (λ b e. so .asleepEnded (b .process) (idle (b .process)) (here (b .process) (At End) e)) al)
 
@@ -93,17 +93,17 @@ module _ (pg : Program) (t : Tables) (r : ℕ → Bool) (so : Sound pg t r) (idl
   held-not k v e p (inr i) = let j = ap heldValue i in let z : _≡_ {A = ℕ} 0 1 = cc in omega arith
 
   pub nothing-fires : ¬ CanFire pg (view t)
-  nothing-fires f = no-fire (view t) refl refl (λ c v e p h. held-not (t .channel c) v e p h) (f .0) (f .1) (f .2)
+  nothing-fires f = no-fire (view t) refl refl (λ c v e p h. held-not (t .channel c) v e p h) (f .0) (f .1) (f .2) (f .3)
 
   -- what a link's record says of its process
   receives-on : (c a p : ℕ) (v : ℤ) → (t .channel c ≡ reader p) ⊎ (t .channel c ≡ chooser p) → (l : ℕ → Option ℤ) → l c ≡ Some v →
       CanFire pg (record { variables = t .variables; place = t .place; link = l })
   receives-on c a p v (inl e) l h =
       let b : ReadsAt pg (t .place) p c = subst (RecordOk pg (t .place) (t .variables) r c) e (so .records c) .1 in
-      (_, _, linksIn p c (b .variableNumber) (b .to) v (byInput (b .lineNumber) (b .stands) (b .isInput)) h)
+      (_, _, _, linksIn p c (b .variableNumber) (b .to) v (byInput (b .lineNumber) (b .stands) (b .isInput)) h)
   receives-on c a p v (inr e) l h =
       let b : ChoosesAt pg (t .place) (t .variables) p c = subst (RecordOk pg (t .place) (t .variables) r c) e (so .records c) in
-      (_, _, linksIn p c (b .variableNumber) (b .to) v (byGuard (b .lineNumber) (b .guards) (b .condition) (b .stands) (b .isAlt) (valued-is (t .variables) (b .guards) (b .allHaveValues)) (b .guardIn) (b .guardTrue)) h)
+      (_, _, _, linksIn p c (b .variableNumber) (b .to) v (byGuard (b .lineNumber) (b .guards) (b .condition) (b .stands) (b .isAlt) (valued-is (t .variables) (b .guards) (b .allHaveValues)) (b .guardIn) (b .guardTrue)) h)
 
   -- a put or a take that helps, by who sleeps on a link
   pub one-helps : SleepsOnLink pg t → OneHelps pg (view t)
@@ -111,7 +111,7 @@ module _ (pg : Program) (t : Tables) (r : ℕ → Bool) (so : Sound pg t r) (idl
   one-helps (choosing c a p kd e) = inr (c, pos 0, fills (view t) c (Some (pos 0)), puts a kd (ap heldValue e), receives-on c a p (pos 0) (inr e) (changed (λ d. heldValue (t .channel d)) c (Some (pos 0))) (changed-here (λ d. heldValue (t .channel d)) c (Some (pos 0))))
   one-helps (writing c a p v kd e) =
       let b : WritesAt pg (t .place) (t .variables) p c v = subst (RecordOk pg (t .place) (t .variables) r c) e (so .records c) .1 in
-      inl (_, _, linksOut p c a (b .to) v kd (record { lineNumber = b .lineNumber; expression = b .expression; stands = b .stands; isOutput = b .isOutput; hasValue = b .hasValue }))
+      inl (_, _, _, linksOut p c a (b .to) v kd (record { lineNumber = b .lineNumber; expression = b .expression; stands = b .stands; isOutput = b .isOutput; hasValue = b .hasValue }))
 
   -- and the engine's own answer to it
   pub call-helps : (prog : Option Program) (h : Counts) → prog ≡ Some pg → SleepsOnLink pg t → CallHelps engine pg (record { program = prog; tables = t; held = h })
@@ -142,16 +142,16 @@ module _ (pg : Program) (t : Tables) (r : ℕ → Bool) (so : Sound pg t r) (idl
   module _ (alone : ¬ SleepsOnLink pg t) where
     still-silent : (s : State) → Still s → (¬ CanFire pg s) × (¬ CanLinkOut pg s)
     still-silent s st = (
-      (λ f. no-fire s (st .same-vars) (st .same-place) (λ c v e p h. let w = st .from-outside c v e in on-link c p (w .0) (w .1) h) (f .0) (f .1) (f .2)),
-      (λ g. gives (g .0) (g .1) (g .2)),
+      (λ f. no-fire s (st .same-vars) (st .same-place) (λ c v e p h. let w = st .from-outside c v e in on-link c p (w .0) (w .1) h) (f .0) (f .1) (f .2) (f .3)),
+      (λ g. gives (g .0) (g .1) (g .2) (g .3)),
     )
       where
         on-link : (c p k : ℕ) → pg .kind c ≡ Incoming k → (t .channel c ≡ reader p) ⊎ (t .channel c ≡ chooser p) → ⊥
         on-link c p k kd (inl e) = alone (reading c k p kd e)
         on-link c p k kd (inr e) = alone (choosing c k p kd e)
 
-        gives : (l : Told) (s′ : State) → LinkOut pg s l s′ → ⊥
-        gives l s′ (linksOut p c k to v kd sn) = let w = sends-named s (st .same-vars) (st .same-place) p c v to sn in alone (writing c k p (w .0) kd (w .1))
+        gives : (q : ℕ) (l : Told) (s′ : State) → LinkOut pg s q l s′ → ⊥
+        gives q l s′ (linksOut p c k to v kd sn) = let w = sends-named s (st .same-vars) (st .same-place) p c v to sn in alone (writing c k p (w .0) kd (w .1))
 
     still : {s : State} → Outside pg (view t) s → Still s
     still stays = record { same-vars = refl; same-place = refl; from-outside = λ c v e. outside-kind c (t .channel c) v (so .records c) e }
@@ -163,7 +163,7 @@ module _ (pg : Program) (t : Tables) (r : ℕ → Bool) (so : Sound pg t r) (idl
           same-place = st .same-place;
           from-outside = λ d w h. changed-case (s .link) c (Some v) d (λ m. m ≡ Some w → (k : ℕ) × (pg .kind d ≡ Incoming k)) (λ i j. (k, ap (pg .kind) i ∙ kd)) (λ i j. st .from-outside d w j) h;
         }
-    still (thenTake {r = s} {r′ = s′} {t = l} o u) = absurd (still-silent s (still o) .1 (l, s′, u))
+    still (thenTake {r = s} {r′ = s′} {p = q} {t = l} o u) = absurd (still-silent s (still o) .1 (q, l, s′, u))
 
     pub nothing-ever : (s : State) → Outside pg (view t) s → (¬ CanFire pg s) × (¬ CanLinkOut pg s)
     nothing-ever s o = still-silent s (still o)

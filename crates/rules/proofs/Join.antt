@@ -24,7 +24,7 @@ module _ (pg : Program) (wf : WellFormed pg) (t : Tables) (r : ℕ → Bool) (so
   own : pg .owner (pg .home p) ≡ pg .parent p
   own = so .holder (pg .parent p) (pg .home p) holds .0
 
-  p-in : (b : Branch) × In b bs × (p ≡ b .process)
+  pub p-in : (b : Branch) × In b bs × (p ≡ b .process)
   p-in = wf .listed p pos (so .small p present-p) bs to is-par
 
   of : (b : Branch) → In b bs → BranchOf pg (pg .home p) b

@@ -18,6 +18,7 @@ pub mod Progress
 pub mod Silence
 pub mod Theorem
 pub mod Pinned
+pub mod Equal
 pub mod Usage
 pub mod Lists
 pub mod Examples

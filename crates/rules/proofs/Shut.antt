@@ -49,7 +49,7 @@ stuck-early keeps =
     let p = keeps (loaded echo 1 ∷ []) (fresh echo) (begins (λ m r m′. (pg : Program) × (m .program ≡ Some pg) × Gives (Ok Stuck, m) r m′) echo echo-formed) .kept echo refl in
     let w = p .sticking (fresh echo) (echo, refl, (refl, refl)) .1 in
     w (fills (view (begun echo)) 0 (Some (pos 0))) (thenPut stays (puts 4 refl refl)) .0
-    (_, _, linksIn 0 0 0 (Line 1) (pos 0) (byInput 0 refl refl) refl)
+    (_, _, _, linksIn 0 0 0 (Line 1) (pos 0) (byInput 0 refl refl) refl)
 
 -- echo: at the start nothing fires
 start-at : (p n : ℕ) → begun echo .place p ≡ At (Line n) → n ≡ 0
@@ -61,23 +61,23 @@ start-holds p n e = changed-case (λ q. Absent) 0 (At (Line 0)) p (λ a. a ≡ H
 node-there : (p n : ℕ) (m : Node) → begun echo .place p ≡ At (Line n) → echo .node n ≡ m → m ≡ input 0 0 (Line 1)
 node-there p n m e i = sym i ∙ ap (echo .node) (start-at p n e)
 
-nothing-moves : (l : Option Told) (s′ : State) → Fires echo (view (begun echo)) l s′ → ⊥
-nothing-moves l s′ (assigns p n x e to v st nd val) = let i = node-there p n (assignment x e to) st nd in let z : _≡_ {A = ℕ} 0 1 = cc in omega arith
-nothing-moves l s′ (skips p n to st nd) = let i = node-there p n (skip to) st nd in let z : _≡_ {A = ℕ} 0 1 = cc in omega arith
-nothing-moves l s′ (tests p n e a b v st nd val) = let i = node-there p n (test e a b) st nd in let z : _≡_ {A = ℕ} 0 1 = cc in omega arith
-nothing-moves l s′ (communicates p q c x to to′ v rc sn) = let i = node-there q (sn .lineNumber) (output c (sn .expression) to′) (sn .stands) (sn .isOutput) in let z : _≡_ {A = ℕ} 0 1 = cc in omega arith
-nothing-moves l s′ (linksIn p c x to v rc e) = let z : _≡_ {A = ℕ} 0 1 = cc in omega arith
-nothing-moves l s′ (takesSkip p n gs e to st nd vd i tr) = let i = node-there p n (alt gs) st nd in let z : _≡_ {A = ℕ} 0 1 = cc in omega arith
-nothing-moves l s′ (passesPar p n to st nd) = let i = node-there p n (par [] to) st nd in let z : _≡_ {A = ℕ} 0 1 = cc in omega arith
-nothing-moves l s′ (startsPar p n b bs to st nd) = let i = node-there p n (par (b ∷ bs) to) st nd in let z : _≡_ {A = ℕ} 0 1 = cc in omega arith
-nothing-moves l s′ (joins p n bs to st nd al) = start-holds p n st
+nothing-moves : (ps : List ℕ) (l : Option Told) (s′ : State) → Fires echo (view (begun echo)) ps l s′ → ⊥
+nothing-moves ps l s′ (assigns p n x e to v st nd val) = let i = node-there p n (assignment x e to) st nd in let z : _≡_ {A = ℕ} 0 1 = cc in omega arith
+nothing-moves ps l s′ (skips p n to st nd) = let i = node-there p n (skip to) st nd in let z : _≡_ {A = ℕ} 0 1 = cc in omega arith
+nothing-moves ps l s′ (tests p n e a b v st nd val) = let i = node-there p n (test e a b) st nd in let z : _≡_ {A = ℕ} 0 1 = cc in omega arith
+nothing-moves ps l s′ (communicates p q c x to to′ v rc sn) = let i = node-there q (sn .lineNumber) (output c (sn .expression) to′) (sn .stands) (sn .isOutput) in let z : _≡_ {A = ℕ} 0 1 = cc in omega arith
+nothing-moves ps l s′ (linksIn p c x to v rc e) = let z : _≡_ {A = ℕ} 0 1 = cc in omega arith
+nothing-moves ps l s′ (takesSkip p n gs e to st nd vd i tr) = let i = node-there p n (alt gs) st nd in let z : _≡_ {A = ℕ} 0 1 = cc in omega arith
+nothing-moves ps l s′ (passesPar p n to st nd) = let i = node-there p n (par [] to) st nd in let z : _≡_ {A = ℕ} 0 1 = cc in omega arith
+nothing-moves ps l s′ (startsPar p n b bs to st nd) = let i = node-there p n (par (b ∷ bs) to) st nd in let z : _≡_ {A = ℕ} 0 1 = cc in omega arith
+nothing-moves ps l s′ (joins p n bs to st nd al) = start-holds p n st
 
 -- what an answer moved means
-moved-fires : {pg : Program} {s : State} {a : Answer} {s′ : State} → StepMeans pg s a s′ → (p : ℕ) → a ≡ Moved p → Fires pg s None s′
+moved-fires : {pg : Program} {s : State} {a : Answer} {s′ : State} → StepMeans pg s a s′ → (p : ℕ) → a ≡ Moved p → (ps : List ℕ) × Fires pg s ps None s′
 moved-fires (halted q) p e = let z : _≡_ {A = ℕ} 0 1 = cc in absurd (omega arith)
-moved-fires (moved q f) p e = f
+moved-fires (moved q i f) p e = (_, f)
 moved-fires (slept q) p e = let z : _≡_ {A = ℕ} 0 1 = cc in absurd (omega arith)
-moved-fires (passed q c v f) p e = let z : _≡_ {A = ℕ} 0 1 = cc in absurd (omega arith)
+moved-fires (passed q c v i f) p e = let z : _≡_ {A = ℕ} 0 1 = cc in absurd (omega arith)
 moved-fires (ended q) p e = let z : _≡_ {A = ℕ} 0 1 = cc in absurd (omega arith)
 moved-fires (finished h) p e = let z : _≡_ {A = ℕ} 0 1 = cc in absurd (omega arith)
 moved-fires waits p e = let z : _≡_ {A = ℕ} 0 1 = cc in absurd (omega arith)
@@ -88,7 +88,8 @@ pub moves-nothing : ¬ KeepsPromise movesNothing
 moves-nothing keeps =
     let p = keeps (loaded echo 1 ∷ []) (fresh echo) (begins (λ m r m′. (pg : Program) × (m .program ≡ Some pg) × Gives (Ok (Moved 0), m) r m′) echo echo-formed) .kept echo refl in
     let w = p .meant (stepped (Ok (Moved 0))) (fresh echo) (echo, refl, (refl, refl)) in
-    nothing-moves None (view (begun echo)) (moved-fires w 0 refl)
+    let f = moved-fires w 0 refl in
+    nothing-moves (f .0) None (view (begun echo)) (f .1)
 
 -- echo: an engine that sleeps past a held outside value says stuck where link in can fire
 abbrev with-value : Tables
@@ -128,7 +129,7 @@ sleeps-past keeps =
     let p = keeps (loaded echo 1 ∷ (offered 4 (pos 9) (Ok (Held 0 (pos 9))) ∷ (stepped (Ok (Slept 0)) ∷ []))) asleep past-calls .kept echo refl in
     let s : StepBy (λ pg t p. sleeping t p (turn pg t p)) asleep (Ok Stuck) asleep = idles echo Stuck refl nobody-held (sticks (λ e. let z : _≡_ {A = ℕ} 0 1 = cc in omega arith) nobody-on-link) (refl, refl) in
     p .sticking asleep s .1 (view with-value) stays .0
-    (_, _, linksIn 0 0 0 (Line 1) (pos 9) (byInput 0 refl refl) refl)
+    (_, _, _, linksIn 0 0 0 (Line 1) (pos 9) (byInput 0 refl refl) refl)
 
 -- couple: an engine that clears a passed-over guard's writer says stuck where a communication can fire
 abbrev cleared-turn : Program → Tables → ℕ → Turn
@@ -183,7 +184,7 @@ clears-writers keeps =
     let p = keeps cleared-calls c4 to-cleared .kept couple refl in
     let s : StepBy cleared-turn c4 (Ok Stuck) c4 = idles couple Stuck refl nobody-left (sticks (λ e. let z : _≡_ {A = ℕ} 0 1 = cc in omega arith) (no-links (c4 .tables))) (refl, refl) in
     p .sticking c4 s .1 (view (c4 .tables)) stays .0
-    (_, _, communicates 2 1 0 0 (Line 4) End (pos 2) (byInput 3 refl refl) (record { lineNumber = 1; expression = number (pos 2); stands = refl; isOutput = refl; hasValue = refl }))
+    (_, _, _, communicates 2 1 0 0 (Line 4) End (pos 2) (byInput 3 refl refl) (record { lineNumber = 1; expression = number (pos 2); stands = refl; isOutput = refl; hasValue = refl }))
 
 -- couple: an engine that joins at the first end answers moved where nothing can fire
 abbrev eager-turn : Program → Tables → ℕ → Turn
@@ -249,17 +250,17 @@ second-runs : j4 .tables .place 2 ≡ At End → ⊥
 unfolding changed
 second-runs e = let z : _≡_ {A = ℕ} 0 1 = cc in omega arith
 
-nothing-joins : (l : Option Told) (s′ : State) → Fires couple (view (j4 .tables)) l s′ → ⊥
-nothing-joins l s′ (assigns p n x e to v st nd val) = let i = stop-there p n (assignment x e to) st nd in let z : _≡_ {A = ℕ} 0 1 = cc in omega arith
-nothing-joins l s′ (skips p n to st nd) = let i = stop-there p n (skip to) st nd in let z : _≡_ {A = ℕ} 0 1 = cc in omega arith
-nothing-joins l s′ (tests p n e a b v st nd val) = let i = stop-there p n (test e a b) st nd in let z : _≡_ {A = ℕ} 0 1 = cc in omega arith
-nothing-joins l s′ (communicates p q c x to to′ v rc sn) = let i = stop-there q (sn .lineNumber) (output c (sn .expression) to′) (sn .stands) (sn .isOutput) in let z : _≡_ {A = ℕ} 0 1 = cc in omega arith
-nothing-joins l s′ (linksIn p c x to v (byInput n st nd) e) = let i = stop-there p n (input c x to) st nd in let z : _≡_ {A = ℕ} 0 1 = cc in omega arith
-nothing-joins l s′ (linksIn p c x to v (byGuard n gs b st nd vd i tr) e) = let j = stop-there p n (alt gs) st nd in let z : _≡_ {A = ℕ} 0 1 = cc in omega arith
-nothing-joins l s′ (takesSkip p n gs e to st nd vd i tr) = let j = stop-there p n (alt gs) st nd in let z : _≡_ {A = ℕ} 0 1 = cc in omega arith
-nothing-joins l s′ (passesPar p n to st nd) = let i = stop-there p n (par [] to) st nd in let z : _≡_ {A = ℕ} 0 1 = cc in omega arith
-nothing-joins l s′ (startsPar p n b bs to st nd) = let i = stop-there p n (par (b ∷ bs) to) st nd in let z : _≡_ {A = ℕ} 0 1 = cc in omega arith
-nothing-joins l s′ (joins p n bs to st nd al) =
+nothing-joins : (ps : List ℕ) (l : Option Told) (s′ : State) → Fires couple (view (j4 .tables)) ps l s′ → ⊥
+nothing-joins ps l s′ (assigns p n x e to v st nd val) = let i = stop-there p n (assignment x e to) st nd in let z : _≡_ {A = ℕ} 0 1 = cc in omega arith
+nothing-joins ps l s′ (skips p n to st nd) = let i = stop-there p n (skip to) st nd in let z : _≡_ {A = ℕ} 0 1 = cc in omega arith
+nothing-joins ps l s′ (tests p n e a b v st nd val) = let i = stop-there p n (test e a b) st nd in let z : _≡_ {A = ℕ} 0 1 = cc in omega arith
+nothing-joins ps l s′ (communicates p q c x to to′ v rc sn) = let i = stop-there q (sn .lineNumber) (output c (sn .expression) to′) (sn .stands) (sn .isOutput) in let z : _≡_ {A = ℕ} 0 1 = cc in omega arith
+nothing-joins ps l s′ (linksIn p c x to v (byInput n st nd) e) = let i = stop-there p n (input c x to) st nd in let z : _≡_ {A = ℕ} 0 1 = cc in omega arith
+nothing-joins ps l s′ (linksIn p c x to v (byGuard n gs b st nd vd i tr) e) = let j = stop-there p n (alt gs) st nd in let z : _≡_ {A = ℕ} 0 1 = cc in omega arith
+nothing-joins ps l s′ (takesSkip p n gs e to st nd vd i tr) = let j = stop-there p n (alt gs) st nd in let z : _≡_ {A = ℕ} 0 1 = cc in omega arith
+nothing-joins ps l s′ (passesPar p n to st nd) = let i = stop-there p n (par [] to) st nd in let z : _≡_ {A = ℕ} 0 1 = cc in omega arith
+nothing-joins ps l s′ (startsPar p n b bs to st nd) = let i = stop-there p n (par (b ∷ bs) to) st nd in let z : _≡_ {A = ℕ} 0 1 = cc in omega arith
+nothing-joins ps l s′ (joins p n bs to st nd al) =
     let n0 = holder-there p n st in
     let at-zero : couple .node 0 ≡ par bs to = sym (ap (couple .node) n0) ∙ nd in
     let same : couple-two ≡ bs = cc in
@@ -270,7 +271,8 @@ unfolding changed intValue truthValue value
 joins-early keeps =
     let p = keeps joined-calls j4 to-joined .kept couple refl in
     let s : StepBy eager-turn j4 (Ok (Moved 1)) j5 = turns couple 1 refl (lit< tt) (refl, refl) in
-    nothing-joins None (view (j5 .tables)) (moved-fires (p .meant (stepped (Ok (Moved 1))) j5 s) 1 refl)
+    let f = moved-fires (p .meant (stepped (Ok (Moved 1))) j5 s) 1 refl in
+    nothing-joins (f .0) None (view (j5 .tables)) (f .1)
 
 pub shut-out : WrongShutOut
 shut-out = (clears-writers, joins-early, sleeps-past, stuck-early, moves-nothing)

@@ -19,16 +19,16 @@ module _ (pg : Program) (wf : WellFormed pg) (m : Machine) (silent : (s : State)
     pub led : Outside pg (view (m .tables)) (view (k .tables))
 
   taken-offer : {s : State} {a : ℕ} {v w : ℤ} {p c : ℕ} {s′ : State} → OfferMeans pg s a v (Taken p c w) s′ → (s₁ : State) × Puts pg s c v s₁ × CanFire pg s₁
-  taken-offer (passedIn p c kd u f) = (_, u, (_, _, f))
+  taken-offer (passedIn p c kd u f) = (_, u, (_, _, _, f))
 
   held-offer : {s : State} {a : ℕ} {v w : ℤ} {c : ℕ} {s′ : State} → OfferMeans pg s a v (Held c w) s′ → Puts pg s c v s′
   held-offer (held c kd u) = u
 
   taken-take : {s : State} {a p c : ℕ} {v : ℤ} {s′ : State} → TakeMeans pg s a (Taken p c v) s′ → CanLinkOut pg s
-  taken-take (passedOut p c v kd f) = (_, _, f)
+  taken-take (passedOut p c v kd f) = (_, _, _, f)
 
   offer-leads : {s : State} {a : ℕ} {v : ℤ} {x : Answer} {s′ : State} → Outside pg (view (m .tables)) s → OfferMeans pg s a v x s′ → Outside pg (view (m .tables)) s′
-  offer-leads o (passedIn p c kd u f) = absurd (silent _ (thenPut o u) .0 (_, _, f))
+  offer-leads o (passedIn p c kd u f) = absurd (silent _ (thenPut o u) .0 (_, _, _, f))
   offer-leads o (held c kd u) = thenPut o u
 
   take-leads : {s : State} {a : ℕ} {x : Answer} {s′ : State} → Outside pg (view (m .tables)) s → TakeMeans pg s a x s′ → Outside pg (view (m .tables)) s′

@@ -2,17 +2,17 @@
 use mathlib.Core.Path.{_∙_, ap, fun-ext, refl, subst, sym}
 use native.Mathlib.Omega.{arith}
 use Rattle.std.proofs.shelf.Tests.{cases-eq, cond-both, eqb-false, eqb-true}
-use Rattle.rules.specs.Types.{Absent, Answer, At, Bool, End, Ended, Expression, Finished, Halted, Held, Holding, Incoming, Internal, Kind, Line, List, Moved, None, Option, Outgoing, Passed, Place, Slept, Some, Standing, Store, Stuck, Taken, Waits, [], _<_, _∷_, _≡_, _≢_, _⊎_, cond, eqb, false, inl, inr, intValue, true, truthValue, ℕ, ℤ}
+use Rattle.rules.specs.Types.{Absent, Answer, At, Bool, End, Ended, Expression, Finished, Halted, Held, Holding, Incoming, Internal, Kind, Line, List, Moved, None, Option, Outgoing, Passed, Place, Slept, Some, Standing, Store, Stuck, Taken, Waits, [], _<_, _∷_, _≡_, _≢_, _⊎_, cond, eqb, false, inl, inr, intValue, map, true, truthValue, ℕ, ℤ}
 use Rattle.rules.specs.Flowchart.{Branch, Guard, Node, Program, alt, assignment, input, inputGuard, output, par, skip, skipGuard, stop, test}
 use Rattle.rules.specs.Functions.{All, In, changed}
 use Rattle.rules.specs.Primary.{Fires, Receives, Sends, State, Told, assigns, byGuard, byInput, communicates, joins, leaves, linksIn, passesPar, sent, skips, startsPar, takesSkip, tests}
 use Rattle.rules.specs.Turns.{Choice, Record, Tables, Turn, afterValue, allValued, altTurn, anyTrue, byOutside, bySkip, byWriter, choose, chooser, did, empty, endTurn, enlist, enlisted, exchange, follower, freed, go, heldValue, inputTurn, internalOutput, lineOf, lineTurn, linkOutput, mark, noGuard, noRule, othersEnded, outputTurn, outside, parTurn, placeTurn, reader, release, turn, unended, unruled, variableAt, view, write, writer}
 use Rattle.rules.specs.WellFormed.{BranchOf, GuardsInside, Inside, Leads, WellFormed}
-use Rattle.rules.proofs.Branches.{all-in, in-all, marks, others-from}
+use Rattle.rules.proofs.Branches.{all-in, in-all, in-processes, marks, others-from}
 use Rattle.rules.proofs.Changes.{changed-case, changed-here, changed-hidden, changed-shown, changed-there}
 use Rattle.rules.proofs.Choices.{Barred, ChoiceOk, TrueGuard, choice-is, enlist-held, none-true, release-held, valued-is}
 use Rattle.rules.proofs.Enlist.{calm, enlist-op}
-use Rattle.rules.proofs.Join.{done, holds, join-op}
+use Rattle.rules.proofs.Join.{done, holds, join-op, p-in}
 use Rattle.rules.proofs.Ops.{differ, go-op, write-op}
 use Rattle.rules.proofs.Par.{ended-op, spawn-op}
 use Rattle.rules.proofs.Sleep.{fill-op, free-op, freed-free, rest-op, sleep-op, wake-op, with-records}
@@ -23,9 +23,9 @@ use Rattle.rules.proofs.Uses.{NodeInputs, NodeOutputs, assigned, in-guards-inp
 -- what a turn's answer says of the rules: one fired, or the state stayed; no turn gives an answer of offers, takes or an empty queue
 abbrev pub Effect : Program → Tables → Answer → Tables → Type 0
 Effect pg t (Halted p) t′ = view t′ ≡ view t
-Effect pg t (Moved p) t′ = Fires pg (view t) None (view t′)
+Effect pg t (Moved p) t′ = (ps : List ℕ) × In p ps × Fires pg (view t) ps None (view t′)
 Effect pg t (Slept p) t′ = view t′ ≡ view t
-Effect pg t (Passed p c v) t′ = Fires pg (view t) (Some (sent c v)) (view t′)
+Effect pg t (Passed p c v) t′ = (ps : List ℕ) × In p ps × Fires pg (view t) ps (Some (sent c v)) (view t′)
 Effect pg t (Ended p) t′ = view t′ ≡ view t
 Effect pg t Finished t′ = ⊥
 Effect pg t Waits t′ = ⊥
@@ -94,21 +94,21 @@ module _ (pg : Program) (wf : WellFormed pg) (t : Tables) (r : ℕ → Bool) (so
   -- p's turn
   module _ (p n : ℕ) (ready : r p ≡ true) (stands : t .place p ≡ At (Line n)) where
     -- a rule that fires, or a state that stays, where links show the same
-    linked : (l : ℕ → Option ℤ) (o : Option Told) (s : Store) (f : ℕ → Standing) → ((c : ℕ) → l c ≡ heldValue (t .channel c)) → Fires pg (view t) o (record { variables = s; place = f; link = λ c. heldValue (t .channel c) }) → Fires pg (view t) o (record { variables = s; place = f; link = l })
-    linked l o s f h u = subst (λ k. Fires pg (view t) o (record { variables = s; place = f; link = k })) (sym (fun-ext h)) u
+    linked : {ps : List ℕ} (l : ℕ → Option ℤ) (o : Option Told) (s : Store) (f : ℕ → Standing) → ((c : ℕ) → l c ≡ heldValue (t .channel c)) → Fires pg (view t) ps o (record { variables = s; place = f; link = λ c. heldValue (t .channel c) }) → Fires pg (view t) ps o (record { variables = s; place = f; link = l })
+    linked {ps} l o s f h u = subst (λ k. Fires pg (view t) ps o (record { variables = s; place = f; link = k })) (sym (fun-ext h)) u
 
     stayed : (l : ℕ → Option ℤ) → ((c : ℕ) → l c ≡ heldValue (t .channel c)) → _≡_ {A = State} (record { variables = t .variables; place = t .place; link = l }) (view t)
     stayed l h = ap {B = State} (λ k. record { variables = t .variables; place = t .place; link = k }) (fun-ext h)
 
-    emptied : (c : ℕ) (o : Option Told) (s : Store) (f : ℕ → Standing) → Fires pg (view t) o (record { variables = s; place = f; link = changed (λ d. heldValue (t .channel d)) c None }) → Fires pg (view t) o (record { variables = s; place = f; link = λ d. heldValue (changed (t .channel) c empty d) })
-    emptied c o s f u = subst (λ k. Fires pg (view t) o (record { variables = s; place = f; link = k })) (sym (fun-ext (λ d. changed-shown heldValue (t .channel) c empty d))) u
+    emptied : {ps : List ℕ} (c : ℕ) (o : Option Told) (s : Store) (f : ℕ → Standing) → Fires pg (view t) ps o (record { variables = s; place = f; link = changed (λ d. heldValue (t .channel d)) c None }) → Fires pg (view t) ps o (record { variables = s; place = f; link = λ d. heldValue (changed (t .channel) c empty d) })
+    emptied {ps} c o s f u = subst (λ k. Fires pg (view t) ps o (record { variables = s; place = f; link = k })) (sym (fun-ext (λ d. changed-shown heldValue (t .channel) c empty d))) u
 
     halts : Rests (t .variables) (t .channel) p (pg .node n) → Good pg t r p (did (Halted p) t [])
     halts h = (rest-op pg t r so p n stands h, refl)
 
-    simple : (to : Place) → Inside pg p to → ((gs : List Guard) → pg .node n ≢ alt gs) → Fires pg (view t) None (view (go t p to)) → Good pg t r p (did (Moved p) (go t p to) (p ∷ []))
+    simple : (to : Place) → Inside pg p to → ((gs : List Guard) → pg .node n ≢ alt gs) → Fires pg (view t) (p ∷ []) None (view (go t p to)) → Good pg t r p (did (Moved p) (go t p to) (p ∷ []))
     simple to ins na f =
-        (subst (Sound pg (go t p to)) (marks-one r p ready) (go-op pg wf t r so p (Line n) to ready stands ins (free-at p n stands na)), f)
+        (subst (Sound pg (go t p to)) (marks-one r p ready) (go-op pg wf t r so p (Line n) to ready stands ins (free-at p n stands na)), (p ∷ [], inl refl, f))
 
     assign-good : (x : ℕ) (e : Expression) (to : Place) → pg .node n ≡ assignment x e to → (m : Option ℤ) → intValue (t .variables) e ≡ m → Good pg t r p (afterValue m t p (λ v. did (Moved p) (go (write t x v) p to) (p ∷ [])))
     assign-good x e to nd None i = halts (subst (Rests (t .variables) (t .channel) p) (sym nd) i)
@@ -116,7 +116,7 @@ module _ (pg : Program) (wf : WellFormed pg) (t : Tables) (r : ℕ → Bool) (so
         let free = free-at p n stands (λ gs h. let z : _≡_ {A = ℕ} 0 1 = cc in omega arith) in
         let s1 = write-op pg wf t r so p n x v ready stands (assigned e to nd) free in
         let s2 = go-op pg wf (write t x v) r s1 p (Line n) to ready stands (lead p n (assignment x e to) stands nd) free in
-        (subst (Sound pg (go (write t x v) p to)) (marks-one r p ready) s2, (assigns p n x e to v stands nd i))
+        (subst (Sound pg (go (write t x v) p to)) (marks-one r p ready) s2, (p ∷ [], inl refl, assigns p n x e to v stands nd i))
 
     test-good : (e : Expression) (a b : Place) → pg .node n ≡ test e a b → (m : Option Bool) → truthValue (t .variables) e ≡ m → Good pg t r p (afterValue m t p (λ v. did (Moved p) (go t p (cond v a b)) (p ∷ [])))
     test-good e a b nd None i = halts (subst (Rests (t .variables) (t .channel) p) (sym nd) i)
@@ -147,7 +147,7 @@ module _ (pg : Program) (wf : WellFormed pg) (t : Tables) (r : ℕ → Bool) (so
         let s2 = write-op pg wf (mark t c empty) r s1 p n x v ready stands (received c (subst (λ m. NodeInputs m c x) (sym nd) (refl, refl))) free′ in
         let s3 = go-op pg wf (write (mark t c empty) x v) r s2 p (Line n) to ready stands (lead p n (input c x to) stands nd) free′ in (
           subst (Sound pg (go (write (mark t c empty) x v) p to)) (marks-one r p ready) s3,
-          emptied c (Some (sent c v)) (changed (t .variables) x v) (changed (t .place) p (At to)) ((linksIn p c x to v (byInput n stands nd) (ap heldValue e))),
+          (p ∷ [], inl refl, emptied c (Some (sent c v)) (changed (t .variables) x v) (changed (t .place) p (At to)) (linksIn p c x to v (byInput n stands nd) (ap heldValue e))),
         )
     input-good c x to nd (writer q v) e =
         let o = rec-at c (writer q v) e in
@@ -162,8 +162,12 @@ module _ (pg : Program) (wf : WellFormed pg) (t : Tables) (r : ℕ → Bool) (so
         let s3 = go-op pg wf (write (mark t c empty) x v) (changed r q true) s2 q (Line (a .lineNumber)) (follower pg t q) (changed-here r q true) (a .stands) insq freeq in
         let s4 = go-op pg wf (go (write (mark t c empty) x v) q (follower pg t q)) (changed r q true) s3 p (Line n) to rp (changed-there (t .place) q (At (follower pg t q)) p ne ∙ stands) (lead p n (input c x to) stands nd) freep in (
           subst (Sound pg (go (go (write (mark t c empty) x v) q (follower pg t q)) p to)) (marks-two r p q ready) s4,
-          linked (λ d. heldValue (changed (t .channel) c empty d)) (Some (sent c v)) (changed (t .variables) x v) (changed (changed (t .place) q (At (follower pg t q))) p (At to)) (changed-hidden heldValue (t .channel) c empty (sym (ap heldValue e)))
-              ((communicates p q c x to (follower pg t q) v (byInput n stands nd) (sends c x q to v e a))),
+          (
+            p ∷ (q ∷ []),
+            inl refl,
+            linked (λ d. heldValue (changed (t .channel) c empty d)) (Some (sent c v)) (changed (t .variables) x v) (changed (changed (t .place) q (At (follower pg t q))) p (At to)) (changed-hidden heldValue (t .channel) c empty (sym (ap heldValue e)))
+                (communicates p q c x to (follower pg t q) v (byInput n stands nd) (sends c x q to v e a)),
+          ),
         )
 
     -- output of v to c
@@ -207,9 +211,13 @@ module _ (pg : Program) (wf : WellFormed pg) (t : Tables) (r : ℕ → Bool) (so
           let nodeq : pg .node (a .lineNumber) ≡ input c (variableAt pg t q) (follower pg t q) = a .isInput ∙ (ap (λ y. input c y (a .to)) (sym x-is) ∙ ap (input c (variableAt pg t q)) (sym to-is)) in
           let swapped = swap (t .place) q p (At (follower pg t q)) (At to) (λ j. ne (sym j)) in (
             subst (Sound pg (go (go (write (mark t c empty) (variableAt pg t q) v) q (follower pg t q)) p to)) (marks-two r p q ready) s4,
-            linked (λ d. heldValue (changed (t .channel) c empty d)) (Some (sent c v)) (changed (t .variables) (variableAt pg t q) v) (changed (changed (t .place) q (At (follower pg t q))) p (At to)) (changed-hidden heldValue (t .channel) c empty (sym (ap heldValue i)))
-                (subst (λ f. Fires pg (view t) (Some (sent c v)) (record { variables = changed (t .variables) (variableAt pg t q) v; place = f; link = λ d. heldValue (t .channel d) })) (sym swapped)
-                ((communicates q p c (variableAt pg t q) (follower pg t q) to v (byInput (a .lineNumber) (a .stands) nodeq) (record { lineNumber = n; expression = e; stands = stands; isOutput = nd; hasValue = val })))),
+            (
+              q ∷ (p ∷ []),
+              inr (inl refl),
+              linked (λ d. heldValue (changed (t .channel) c empty d)) (Some (sent c v)) (changed (t .variables) (variableAt pg t q) v) (changed (changed (t .place) q (At (follower pg t q))) p (At to)) (changed-hidden heldValue (t .channel) c empty (sym (ap heldValue i)))
+                  (subst (λ f. Fires pg (view t) (q ∷ (p ∷ [])) (Some (sent c v)) (record { variables = changed (t .variables) (variableAt pg t q) v; place = f; link = λ d. heldValue (t .channel d) })) (sym swapped)
+                  (communicates q p c (variableAt pg t q) (follower pg t q) to v (byInput (a .lineNumber) (a .stands) nodeq) (record { lineNumber = n; expression = e; stands = stands; isOutput = nd; hasValue = val }))),
+            ),
           )
         where
           swap : (f : ℕ → Standing) (i j : ℕ) (a b : Standing) → i ≢ j → changed (changed f i a) j b ≡ changed (changed f j b) i a
@@ -300,7 +308,7 @@ module _ (pg : Program) (wf : WellFormed pg) (t : Tables) (r : ℕ → Bool) (so
           let s1 = free-op pg t r so p ready in
           let s2 = go-op pg wf (freed t p) r s1 p (Line n) to ready stands (skip-inside gs (h .0) to targets (h .1)) (λ c. freed-free pg t r so p c (t .channel c)) in (
             subst (Sound pg (go (freed t p) p to)) (marks-one r p ready) s2,
-            linked (λ d. heldValue (release p (t .channel d))) None (t .variables) (changed (t .place) p (At to)) (λ d. release-held p (t .channel d)) ((takesSkip p n gs (h .0) to stands nd (valued-is (t .variables) gs vd) (h .1) (h .2))),
+            (p ∷ [], inl refl, linked (λ d. heldValue (release p (t .channel d))) None (t .variables) (changed (t .place) p (At to)) (λ d. release-held p (t .channel d)) (takesSkip p n gs (h .0) to stands nd (valued-is (t .variables) gs vd) (h .1) (h .2))),
           )
       alt-good (byOutside c x to v) h ch =
           let s1 = fill-op pg t r so c empty (λ q i. subst (λ k. Names k q) (h .1) i) tt in
@@ -309,8 +317,12 @@ module _ (pg : Program) (wf : WellFormed pg) (t : Tables) (r : ℕ → Bool) (so
           let s3 = write-op pg wf (freed (mark t c empty) p) r s2 p n x v ready stands (received c (guard-inputs c x to (h .0))) fr in
           let s4 = go-op pg wf (write (freed (mark t c empty) p) x v) r s3 p (Line n) to ready stands (guard-inside gs (h .0 .condition) c x to targets (h .0 .guardIn)) fr in (
             subst (Sound pg (go (write (freed (mark t c empty) p) x v) p to)) (marks-one r p ready) s4,
-            subst (λ k. Fires pg (view t) (Some (sent c v)) (record { variables = changed (t .variables) x v; place = changed (t .place) p (At to); link = k })) (fun-ext (λ d. sym (release-held p (changed (t .channel) c empty d))))
-                (emptied c (Some (sent c v)) (changed (t .variables) x v) (changed (t .place) p (At to)) ((linksIn p c x to v (receives c x to (h .0)) (ap heldValue (h .1))))),
+            (
+              p ∷ [],
+              inl refl,
+              subst (λ k. Fires pg (view t) (p ∷ []) (Some (sent c v)) (record { variables = changed (t .variables) x v; place = changed (t .place) p (At to); link = k })) (fun-ext (λ d. sym (release-held p (changed (t .channel) c empty d))))
+                  (emptied c (Some (sent c v)) (changed (t .variables) x v) (changed (t .place) p (At to)) (linksIn p c x to v (receives c x to (h .0)) (ap heldValue (h .1)))),
+            ),
           )
       alt-good (byWriter c x to q v) h ch =
           let o = rec-at c (writer q v) (h .1) in
@@ -327,14 +339,18 @@ module _ (pg : Program) (wf : WellFormed pg) (t : Tables) (r : ℕ → Bool) (so
           let s4 = go-op pg wf (write (freed (mark t c empty) p) x v) (changed r q true) s3 q (Line (a .lineNumber)) (follower pg t q) rq (a .stands) insq fq in
           let s5 = go-op pg wf (go (write (freed (mark t c empty) p) x v) q (follower pg t q)) (changed r q true) s4 p (Line n) to rp (changed-there (t .place) q (At (follower pg t q)) p ne ∙ stands) (guard-inside gs (h .0 .condition) c x to targets (h .0 .guardIn)) fp in (
             subst (Sound pg (go (go (write (freed (mark t c empty) p) x v) q (follower pg t q)) p to)) (marks-two r p q ready) s5,
-            linked (λ d. heldValue (release p (changed (t .channel) c empty d))) (Some (sent c v)) (changed (t .variables) x v) (changed (changed (t .place) q (At (follower pg t q))) p (At to))
-                (λ d. release-held p (changed (t .channel) c empty d) ∙ changed-hidden heldValue (t .channel) c empty (sym (ap heldValue (h .1))) d)
-                ((communicates p q c x to (follower pg t q) v (receives c x to (h .0)) (sends c x q to v (h .1) a))),
+            (
+              p ∷ (q ∷ []),
+              inl refl,
+              linked (λ d. heldValue (release p (changed (t .channel) c empty d))) (Some (sent c v)) (changed (t .variables) x v) (changed (changed (t .place) q (At (follower pg t q))) p (At to))
+                  (λ d. release-held p (changed (t .channel) c empty d) ∙ changed-hidden heldValue (t .channel) c empty (sym (ap heldValue (h .1))) d)
+                  (communicates p q c x to (follower pg t q) v (receives c x to (h .0)) (sends c x q to v (h .1) a)),
+            ),
           )
 
     par-good : (bs : List Branch) (to : Place) → pg .node n ≡ par bs to → Good pg t r p (parTurn t p n to bs)
     par-good [] to nd = simple to (lead p n (par [] to) stands nd) (λ gs h. let z : _≡_ {A = ℕ} 0 1 = cc in omega arith) (passesPar p n to stands nd)
-    par-good (b ∷ bs) to nd = (spawn-op pg wf t r so p n b bs to ready stands nd, (startsPar p n b bs to stands nd))
+    par-good (b ∷ bs) to nd = (spawn-op pg wf t r so p n b bs to ready stands nd, (p ∷ [], inl refl, startsPar p n b bs to stands nd))
 
     line-good : (m : Node) → pg .node n ≡ m → Good pg t r p (lineTurn pg t p n m)
     line-good (assignment x e to) nd = assign-good x e to nd (intValue (t .variables) e) refl
@@ -389,7 +405,7 @@ module _ (pg : Program) (wf : WellFormed pg) (t : Tables) (r : ℕ → Bool) (so
         (did (Ended p) (record { variables = t .variables; place = t .place; channel = t .channel; ended = changed (t .ended) p true }) []) (Good pg t r p)
         (λ e. (
           join-op pg wf t r so p bs to pos ready stands nd e,
-          (joins (pg .parent p) (pg .home p) bs to (holds pg wf t r so p bs to pos ready stands nd e) nd (in-all (λ b. t .place (b .process) ≡ At End) bs (λ b i. done pg wf t r so p bs to pos ready stands nd e b i))),
+          (pg .parent p ∷ map (λ b. b .process) bs, (let w = p-in pg wf t r so p bs to pos ready stands nd e in inr (in-processes p bs (w .0) (w .1) (w .2))), joins (pg .parent p) (pg .home p) bs to (holds pg wf t r so p bs to pos ready stands nd e) nd (in-all (λ b. t .place (b .process) ≡ At End) bs (λ b i. done pg wf t r so p bs to pos ready stands nd e b i))),
         ))
         (λ e. (ended-op pg wf t r so p stands (branch-last bs to nd e), refl))
 

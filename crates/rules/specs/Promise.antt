@@ -1,6 +1,6 @@
 -- The promise: what every history of an engine is owed at the state that it leads to.
 use Rattle.rules.specs.Types.{_≡_, _⊎_, _≢_, List, [], _∷_, _++_, ℕ, _+_, _<_, length, ℤ, Some, None, Result, Ok, Err, Incoming, Outgoing, Answer, Halted, Moved, Slept, Passed, Ended, Finished, Waits, Stuck, Taken, Held, Refusal, NoRule}
-use Rattle.rules.specs.Functions.{Any}
+use Rattle.rules.specs.Functions.{In, Any}
 use Rattle.rules.specs.Flowchart.{Program}
 use Rattle.rules.specs.Primary.{State, Told, sent, Fires, LinkOut, Puts, Run, CanFire, CanLinkOut, HasEnded, Outside, initial}
 use Rattle.rules.specs.WellFormed.{WellFormed}
@@ -8,12 +8,12 @@ use Rattle.rules.specs.Turns.{view, turn}
 use Rattle.rules.specs.Calls.{Machine, StepBy, Offer, Take}
 use Rattle.rules.specs.History.{Call, loaded, loadRefused, stepped, offered, took, Engine, Reached, told, lastAccepted}
 
--- what a step's answer means: which rule fired between the two states, if any
+-- what a step's answer means: which rule fired between the two states, if any; the answer's process took part in it
 pub data StepMeans (pg : Program) (s : State) : Answer → State → Type 0 where
   halted : (p : ℕ) → StepMeans pg s (Halted p) s
-  moved : (p : ℕ) {s′ : State} → Fires pg s None s′ → StepMeans pg s (Moved p) s′
+  moved : (p : ℕ) {ps : List ℕ} {s′ : State} → In p ps → Fires pg s ps None s′ → StepMeans pg s (Moved p) s′
   slept : (p : ℕ) → StepMeans pg s (Slept p) s
-  passed : (p c : ℕ) (v : ℤ) {s′ : State} → Fires pg s (Some (sent c v)) s′ → StepMeans pg s (Passed p c v) s′
+  passed : (p c : ℕ) (v : ℤ) {ps : List ℕ} {s′ : State} → In p ps → Fires pg s ps (Some (sent c v)) s′ → StepMeans pg s (Passed p c v) s′
   ended : (p : ℕ) → StepMeans pg s (Ended p) s
   finished : HasEnded s → StepMeans pg s Finished s
   waits : StepMeans pg s Waits s
@@ -21,12 +21,12 @@ pub data StepMeans (pg : Program) (s : State) : Answer → State → Type 0 wher
 
 -- what the answer to an offer of v at the address a means: held, the outside's put; taken, that and then link in
 pub data OfferMeans (pg : Program) (s : State) (a : ℕ) (v : ℤ) : Answer → State → Type 0 where
-  passedIn : (p c : ℕ) {s₁ s′ : State} → pg .kind c ≡ Incoming a → Puts pg s c v s₁ → Fires pg s₁ (Some (sent c v)) s′ → OfferMeans pg s a v (Taken p c v) s′
+  passedIn : (p c : ℕ) {s₁ s′ : State} → pg .kind c ≡ Incoming a → Puts pg s c v s₁ → Fires pg s₁ (p ∷ []) (Some (sent c v)) s′ → OfferMeans pg s a v (Taken p c v) s′
   held : (c : ℕ) {s′ : State} → pg .kind c ≡ Incoming a → Puts pg s c v s′ → OfferMeans pg s a v (Held c v) s′
 
 -- what the answer to a take at the address a means: link out
 pub data TakeMeans (pg : Program) (s : State) (a : ℕ) : Answer → State → Type 0 where
-  passedOut : (p c : ℕ) (v : ℤ) {s′ : State} → pg .kind c ≡ Outgoing a → LinkOut pg s (sent c v) s′ → TakeMeans pg s a (Taken p c v) s′
+  passedOut : (p c : ℕ) (v : ℤ) {s′ : State} → pg .kind c ≡ Outgoing a → LinkOut pg s p (sent c v) s′ → TakeMeans pg s a (Taken p c v) s′
 
 -- a refused call fires no rule; and no call is refused for want of a rule
 abbrev pub RefusalMeans : State → Refusal → State → Type 0

@@ -5,19 +5,18 @@ ghost use Rattle.rules.specs.Examples.{ExamplesStand};
 ghost use Rattle.rules.specs.History.{engine};
 ghost use Rattle.rules.specs.Promise.{KeepsPromise, Pinned};
 ghost use Rattle.rules.specs.Wrong.{WrongShutOut};
-
 use faults::Fault;
 use faults::Layer;
 
 // A place of the flowchart: a line of the text, or the end of the process that goes there.
-#[derive(Clone, Copy)]
+#[derive(Clone, Copy, Debug, PartialEq)]
 pub enum Place {
     Line(u16),
     End,
 }
 
 // Where a process stands: nowhere, holding at the line of its PAR while the branches run, or at a place.
-#[derive(Clone, Copy)]
+#[derive(Clone, Copy, Debug, PartialEq)]
 pub enum Standing {
     Absent,
     Holding(u16),
@@ -25,7 +24,7 @@ pub enum Standing {
 }
 
 // What a channel is: internal, or a link placed at an address, to the outside or from it.
-#[derive(Clone, Copy)]
+#[derive(Clone, Copy, Debug, PartialEq)]
 pub enum Kind {
     Internal,
     Outgoing(u8),
@@ -33,7 +32,7 @@ pub enum Kind {
 }
 
 // What step, offer and take answer when they are not refused.
-#[derive(Clone, Copy)]
+#[derive(Clone, Copy, Debug, PartialEq)]
 pub enum Answer {
     Halted {
         process: u8,
@@ -67,7 +66,7 @@ pub enum Answer {
 }
 
 // Why step, offer or take is refused.
-#[derive(Clone, Copy)]
+#[derive(Clone, Copy, Debug, PartialEq)]
 pub enum Refusal {
     NoProgram,
     NoLink,
