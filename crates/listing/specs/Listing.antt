@@ -11,9 +11,7 @@ use Rattle.std.specs.declared.alloc.Global.{Global}
 use Rattle.std.specs.declared.result.Result.{Result}
 use Rattle.std.specs.declared.result.Result.the-variants.{Ok, Err}
 use Rattle.std.specs.declared.vec.Vec.{Vec}
-use Rattle.faults.specs.Refusal.{refusalLine}
 use Rattle.words.specs.Division.{linesOf}
-use Rattle.words.specs.Fault.{faultOf}
 use Rattle.words.specs.Reading.{Reading, lineOf}
 use Rattle.words.specs.Token.{Token, name, keyword, number, sign, textOf, placeOf}
 use Rattle.words.specs.declared.refusal.WordFault.{WordFault}
@@ -78,8 +76,3 @@ Shows old new rs (Err e) = (e ≡ Memory) ⊎ (rs ≡ Err e)
 abbrev pub bytesOf : Result (Vec ℕ Global) WordFault → Result (List ℕ) WordFault
 bytesOf (Ok v) = Ok (vec-items v)
 bytesOf (Err e) = Err e
-
--- what is printed of a text: its listing, or the line of its first fault
-abbrev pub printed : Result (List ℕ) WordFault → List ℕ
-printed (Ok out) = out
-printed (Err e) = refusalLine (faultOf e) ++ codes "\n"

@@ -7,13 +7,21 @@ ghost use lib.ListN.{length};
 ghost use Rattle.std.specs.Of.String.{string-bytes};
 ghost use Rattle.std.specs.Of.Vec.{vec-items};
 ghost use Rattle.std.specs.Vec.{made};
-ghost use Rattle.listing.specs.Listing.{kindName, frontOf, rowOf, rowsOf, linesRows, Shows, closing, listingOf, bytesOf, printed};
-ghost use Rattle.faults.specs.Refusal.{refusalLine};
+ghost use Rattle.listing.specs.Listing.{kindName, frontOf, rowOf, rowsOf, linesRows, Shows, closing, listingOf, bytesOf};
+ghost use Rattle.lines.specs.Text.{entry as entered};
+ghost use Rattle.listing.specs.Printed.{faultLine, printed, withForms};
 ghost use Rattle.words.specs.Division.{numberedLine};
 ghost use Rattle.words.specs.Reading.{UnlessMemory};
 ghost use Rattle.words.specs.Token.{token};
+
+mod forms;
+
 use faults::Fault;
 use faults::FaultDisplay;
+use forms::push_forms;
+use lines::Entry;
+use lines::LineFault;
+use lines::read_text;
 use std::alloc::AllocError;
 use std::alloc::Global;
 use words::Line;
@@ -116,22 +124,35 @@ pub fn listing(heap: Global, text: &[u8]) -> Result<Vec<u8>, WordFault>
 }
 
 // The line of a refusal.
-fn refusal_line(heap: Global, fault: Fault) -> Result<String, AllocError>
-    ensures { λ r. ⌜ made r (λ s. string-bytes s ≡ refusalLine fault ++ codes "\n") ⌝ }
+fn refusal_line(heap: Global, fault: Fault) -> Result<Vec<u8>, AllocError>
+    ensures { λ r. ⌜ made r (λ v. vec-items v ≡ faultLine fault) ⌝ }
 {
-    format!(heap, "{fault}\n")
+    let line = format!(heap, "{fault}\n")?;
+    Ok(line.into_bytes())
 }
 
-// What occlist prints of a text: its listing, or the line of its first fault.
-pub fn printout(heap: Global, text: &[u8]) -> Result<Vec<u8>, AllocError>
-    ensures { λ r. ⌜ made r (λ v. vec-items v ≡ printed (listingOf (now (text .entry)))) ⌝ }
+// The listing of a text's words, and after it that of its forms.
+fn with_forms(heap: Global, text: &[u8], entries: &[Entry]) -> Result<Vec<u8>, AllocError>
+    ensures { λ r. ⌜ made r (λ v. vec-items v ≡ withForms (listingOf (now (text .entry))) (map entered (now (entries .entry)))) ⌝ }
 {
     match listing(heap, text) {
-        Ok(out) => Ok(out),
-        Err(WordFault::Memory) => Err(AllocError),
-        Err(refusal) => {
-            let line = refusal_line(heap, refusal.fault())?;
-            Ok(line.into_bytes())
+        Ok(mut out) => {
+            out.extend_from_slice(b"line level form\n")?;
+            push_forms(heap, &mut out, entries)?;
+            Ok(out)
         }
+        Err(WordFault::Memory) => Err(AllocError),
+        Err(refusal) => refusal_line(heap, refusal.fault()),
+    }
+}
+
+// What occlist prints of a text: the listing of its words and that of its forms, or the line of its first fault.
+pub fn printout(heap: Global, text: &[u8]) -> Result<Vec<u8>, AllocError>
+    ensures { λ r. ⌜ made r (λ v. vec-items v ≡ printed (now (text .entry))) ⌝ }
+{
+    match read_text(heap, text) {
+        Ok(outline) => with_forms(heap, text, outline.entries.as_slice()),
+        Err(LineFault::Memory) => Err(AllocError),
+        Err(refusal) => refusal_line(heap, refusal.fault()),
     }
 }

@@ -1,10 +1,11 @@
-// Small cases of texts, and what occlist prints of each.
+// Small cases of texts, and the listing of the words of each, or its refusal.
 ghost use mathlib.Core.Path.{_≡_};
 ghost use Prim.Native.Nat.{_+_, _*_};
 ghost use lib.ListN.{length};
 ghost use Rattle.std.specs.Of.Vec.{vec-len};
 ghost use Rattle.std.specs.Vec.{made};
-use listing::printout;
+use faults::FaultDisplay;
+use listing::listing;
 use std::alloc::AllocError;
 use std::alloc::Global;
 use std::error::AnyError;
@@ -236,18 +237,22 @@ fn text_of(heap: Global, case: &Filled) -> Result<Vec<u8>, AllocError>
 
 fn main(rt: LibcRuntime) -> Result<(), AnyError> {
     let heap = rt.alloc();
+    let mut texts = Vec::new(heap);
     for case in CASES.iter() {
-        let name = case.name;
-        println!(rt, "== {name}")?;
-        rt.stdout()
-            .write_all(printout(heap, case.text)?.as_slice())?;
+        texts.push((case.name, case.text.to_vec(heap)?))?;
     }
     for case in FILLED.iter() {
-        let name = case.name;
+        texts.push((case.name, text_of(heap, case)?))?;
+    }
+    for (name, text) in texts.iter() {
         println!(rt, "== {name}")?;
-        let text = text_of(heap, case)?;
-        rt.stdout()
-            .write_all(printout(heap, text.as_slice())?.as_slice())?;
+        match listing(heap, text.as_slice()) {
+            Ok(out) => rt.stdout().write_all(out.as_slice())?,
+            Err(refusal) => {
+                let fault = refusal.fault();
+                println!(rt, "{fault}")?
+            }
+        }
     }
     Ok(())
 }

@@ -1,0 +1,14 @@
+pub mod Fault
+pub mod Syntax
+pub mod Roles
+pub mod Answer
+pub mod Found
+pub mod Phrases
+pub mod Sentences
+pub mod Table
+pub mod Types
+pub mod Judgement
+pub mod Grammar
+pub mod Lines
+pub mod Law
+pub mod Text

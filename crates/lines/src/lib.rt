@@ -1,0 +1,31 @@
+// The lines of an occam text: the form of each, the names that are declared, and types.
+mod declaration;
+mod drafts;
+mod forms;
+mod judgement;
+mod names;
+mod phrases;
+mod reading;
+mod refusal;
+mod resolution;
+mod search;
+mod syntax;
+mod text;
+mod types;
+mod vocabulary;
+
+pub use forms::Form;
+pub use names::Names;
+pub use reading::Statement;
+pub use reading::no_names;
+pub use reading::read_form;
+pub use refusal::LineFault;
+pub use refusal::LineFaultFromAlloc;
+pub use refusal::LineFaultFromRefused;
+pub use refusal::LineFaultFromWord;
+pub use search::Named;
+pub use search::find;
+pub use syntax::Lone;
+pub use text::Entry;
+pub use text::Outline;
+pub use text::read_text;
