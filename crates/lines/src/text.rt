@@ -31,7 +31,11 @@ pub struct Outline<'a> {
 }
 
 // The forms of some lines, each read under the names that those before it declare.
-fn read_forms<'a>(heap: Global, names: &mut Names<'a>, lines: &[Line<'a>]) -> Result<Vec<Entry>, LineFault>
+fn read_forms<'a>(
+    heap: Global,
+    names: &mut Names<'a>,
+    lines: &[Line<'a>],
+) -> Result<Vec<Entry>, LineFault>
     ensures { λ r. ⌜ UnlessStarved (given (entriesWith (now (names .exit))) r) (formsFrom (table (now (names .entry))) (map numberedLine (now (lines .entry)))) ⌝ }
 {
     let mut entries = Vec::new(heap);
