@@ -1,4 +1,6 @@
 // Expressions, and their values in a store of variables.
+#![tactic(auto)]
+
 ghost use Rattle.std.specs.Prelude.{◌≡◌};
 ghost use Rattle.expressions.specs.Expression.{shape};
 ghost use Rattle.expressions.specs.Value.{Store, combined, int_value, negation_of, negative_of, store_of, truth_value, value};

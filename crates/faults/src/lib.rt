@@ -1,4 +1,6 @@
 // What a refusal tells: a number, the layer that refused, and a place in the text.
+#![tactic(auto)]
+
 ghost use Rattle.std.specs.Prelude.{Some};
 ghost use Rattle.faults.specs.Refusal.{layer_name, refusal_line};
 

@@ -1,4 +1,6 @@
 // The flowchart of a program: what stands at each line, where it leads, and the tree of processes.
+#![tactic(auto)]
+
 mod program;
 
 pub use program::{Branch, Guard, Node, Origin, Program};

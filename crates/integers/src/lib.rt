@@ -1,4 +1,6 @@
 // INT: its operators and comparisons.
+#![tactic(auto)]
+
 ghost use Rattle.std.specs.Prelude.{◌≡◌, neg_ℤ, Decides};
 ghost use Rattle.integers.specs.Int.{applied, negated, compared};
 ghost use Rattle.integers.specs.Laws.{Exactly, Gives, Holds, Only};

@@ -1,4 +1,6 @@
 // Small cases of lines, and what occlist prints of each.
+#![tactic(auto)]
+
 ghost use Rattle.std.specs.Prelude.{◌≡◌, ◌+◌, ◌*◌, IfOk, vec_len};
 
 use listing::printout;

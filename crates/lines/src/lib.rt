@@ -1,4 +1,6 @@
 // The lines of an occam text: the form of each, the names that are declared, and types.
+#![tactic(auto)]
+
 mod declaration;
 mod drafts;
 mod forms;

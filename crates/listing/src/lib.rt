@@ -1,4 +1,6 @@
 // What occlist prints, as bytes.
+#![tactic(auto)]
+
 ghost use Rattle.std.specs.Prelude.{◌≡◌, ◌≤◌, ◌++◌, map, length, IfOk, string_bytes, codes, OnOk};
 ghost use Rattle.listing.specs.Listing.{kind_name, front_of, row_of, rows_of, lines_rows, Shows, closing, listing_of, bytes_of};
 ghost use Rattle.lines.specs.Text.{entry as entered};

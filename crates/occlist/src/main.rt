@@ -1,4 +1,6 @@
 // occlist: checks an occam text from standard input and lists its words, or prints why it is refused.
+#![tactic(auto)]
+
 use listing::printout;
 use std::io::{Read, Write};
 use words::TEXT_BYTES;

@@ -1,4 +1,6 @@
 // Ready queues: which of the numbers 0 to 63 are to be served, and which comes next.
+#![tactic(auto)]
+
 mod draining;
 mod joined;
 mod lowest;

@@ -1,4 +1,6 @@
 // A sheet of ready queues: each kind is given the same numbers, asked what it holds, and drained.
+#![tactic(auto)]
+
 ghost use Rattle.std.specs.Prelude.{◌≡◌, ◌<◌, [], ◌∷◌, Some, OnOk, ◌≢◌};
 ghost use Rattle.queues.specs.Bits.{bit};
 ghost use Rattle.queues.specs.Lists.{times};

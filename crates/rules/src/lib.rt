@@ -1,4 +1,6 @@
 // The types that the rules and the engine share, what each answer and refusal holds, and the theorems.
+#![tactic(auto)]
+
 ghost use Rattle.std.specs.Prelude.{◌≡◌};
 ghost use Rattle.rules.specs.Answers.{fault_of, message_of, number_of, process_of};
 ghost use Rattle.rules.specs.Examples.{ExamplesStand};

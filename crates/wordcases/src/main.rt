@@ -1,4 +1,6 @@
 // Small cases of texts, and the listing of the words of each, or its refusal.
+#![tactic(auto)]
+
 ghost use Rattle.std.specs.Prelude.{◌≡◌, ◌+◌, ◌*◌, length, IfOk, vec_len};
 
 use listing::listing;

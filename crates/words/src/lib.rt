@@ -1,4 +1,6 @@
 // The words of an occam text: its limits, its lines, and the words of a line.
+#![tactic(auto)]
+
 mod classes;
 mod division;
 mod reading;
