@@ -23,4 +23,4 @@ loop-queue-smaller g c = falls _ _ c.in-Some.n c.in-Some.ensures
 pub loop-queue-preserved : goal.loop-queue-preserved
 loop-queue-preserved g c =
     let room = moves_same _ _ _ _ _ c.loop-queue.invariant.0 c.reserve.ensures.items in
-    (moves_number _ _ _ _ _ _ c.in-Some.n room c.in-Some.ensures c.push-reserved.ensures.items, omega (arith, c.loop-queue.invariant.1))
+    (moves_number _ _ _ _ _ _ c.in-Some.n room c.in-Some.ensures c.push_reserved.ensures.items, omega (arith, c.loop-queue.invariant.1))

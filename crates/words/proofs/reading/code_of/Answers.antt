@@ -2,5 +2,5 @@ use Rattle.std.proofs.Common.{rules}
 use Rattle.words.proofs.Comments.{code_within}
 use Rattle.words.proofs.reading.code_of.Goals as goal
 
-pub split-at-requires : goal.split-at-requires
-split-at-requires c = search (rules, code_within)
+pub split_at-requires : goal.split_at-requires
+split_at-requires c = search (rules, code_within)

@@ -9,22 +9,22 @@ use Rattle.words.proofs.reading.words_of.Goals as goal
 pub loop-at-preserved-then-code-at-eq32 : goal.loop-at-preserved-then-code-at-eq32
 loop-at-preserved-then-code-at-eq32 c = (omega (arith, c.loop-at.invariant.0), space_turn c.loop-at-test.true c.loop-at.invariant.1 c.if-code-at-eq32.true)
 
-pub returns-in-err-word : goal.returns-in-err-word
-returns-in-err-word c =
-    let p = err_from_is_err_and c.from-residual.result c.from-residual.ensures.1 in
-    let is = fault_turn c.loop-at-test.true c.loop-at.invariant.1 _ c.if-code-at-eq32.false c.in-err-word.ensures in
+pub returns-in_err-word : goal.returns-in_err-word
+returns-in_err-word c =
+    let p = err_from_is_err_and c.from_residual.result c.from_residual.ensures.1 in
+    let is = fault_turn c.loop-at-test.true c.loop-at.invariant.1 _ c.if-code-at-eq32.false c.in_err-word.ensures in
     rw (p.1, p.2, is) (record { reads = inr refl; few = tt })
 
 pub loop-at-smaller : goal.loop-at-smaller
 loop-at-smaller c =
-    let sized = word_size c.loop-at-test.true c.loop-at.invariant.1 (token c.in-ok-word.word) c.in-ok-word.ensures in
+    let sized = word_size c.loop-at-test.true c.loop-at.invariant.1 (token c.in_ok-word.word) c.in_ok-word.ensures in
     omega (arith, sized.0, ap length c.text.ensures)
 
 pub loop-at-preserved : goal.loop-at-preserved
 loop-at-preserved c =
-    let sized = word_size c.loop-at-test.true c.loop-at.invariant.1 (token c.in-ok-word.word) c.in-ok-word.ensures in
-    let turned = word_turn c.loop-at-test.true c.loop-at.invariant.1 (token c.in-ok-word.word) c.if-code-at-eq32.false c.in-ok-word.ensures in
-    let ok = ap is_ok c.in-ok-push.was in
+    let sized = word_size c.loop-at-test.true c.loop-at.invariant.1 (token c.in_ok-word.word) c.in_ok-word.ensures in
+    let turned = word_turn c.loop-at-test.true c.loop-at.invariant.1 (token c.in_ok-word.word) c.if-code-at-eq32.false c.in_ok-word.ensures in
+    let ok = ap is_ok c.in_ok-push.was in
     let pushed = chosen _ _ _ _ c.push.ensures.items ok in
     let more = chosen _ _ _ _ c.push.ensures.len ok in (
       omega (arith, c.loop-at.invariant.0, more, sized.0, ap length c.text.ensures),

@@ -3,4 +3,4 @@ use Rattle.words.proofs.scan.keyword_of.Goals as goal
 
 pub returns : goal.returns
 unfolding keyword_of
-returns c = c.listed-in.ensures
+returns c = c.listed_in.ensures
