@@ -14,8 +14,8 @@ constant is = ⊎_elim (λ p. mask_at (ap shape p.1) (mask_none (λ x r. r))) (�
 pub returns-in-Number : goal.returns-in-Number
 returns-in-Number t c = let m = constant c.in-Number.is in record { variables = m; suffices = mask_suffices _ _ m }
 
-pub returns-in-Number·2 : goal.returns-in-Number·2
-returns-in-Number·2 t c = let m = constant c.in-Number.is in record { variables = m; suffices = mask_suffices _ _ m }
+pub returns-in-Number-2 : goal.returns-in-Number-2
+returns-in-Number-2 t c = let m = constant c.in-Number.is in record { variables = m; suffices = mask_suffices _ _ m }
 
 pub returns-in-Variable : goal.returns-in-Variable
 returns-in-Variable t c =

@@ -2,9 +2,9 @@ use Rattle.std.proofs.Common.{rules}
 use Rattle.expressions.specs.Value.{truth_value}
 use Rattle.expressions.proofs.Expr.eval_truth.Goals as goal
 
-pub returns-in-err-eval : goal.returns-in-err-eval
+pub returns-in_err-eval : goal.returns-in_err-eval
 unfolding truth_value
-returns-in-err-eval c = search rules
+returns-in_err-eval c = search rules
 
 pub returns-in-Int : goal.returns-in-Int
 unfolding truth_value
