@@ -5,10 +5,10 @@ use Rattle.lines.proofs.declaration.add_variables.Goals as goal
 
 pub loop-mention-preserved : goal.loop-mention-preserved
 loop-mention-preserved c = (
-  row_more variable_row (vec_items c.reserve.new.self) (vec_items c.loop-mention.rows) (vec_items c.push-reserved.new.self) c.args.list.now c.loop-mention.mention-index
-      (record { text = record { ref_ptr = (0, 0); now = [] }; byte = 0 }) c.loop-mention-test.true c.loop-mention.invariant.0 c.push-reserved.ensures.items,
-  omega (arith, c.loop-mention.invariant.1, c.push-reserved.ensures.len),
-  omega (arith, c.loop-mention.invariant.2, c.push-reserved.ensures.capacity),
+  row_more variable_row (vec_items c.reserve.new.self) (vec_items c.loop-mention.rows) (vec_items c.push_reserved.new.self) c.args.list.now c.loop-mention.mention-index
+      (record { text = record { ref_ptr = (0, 0); now = [] }; byte = 0 }) c.loop-mention-test.true c.loop-mention.invariant.0 c.push_reserved.ensures.items,
+  omega (arith, c.loop-mention.invariant.1, c.push_reserved.ensures.len),
+  omega (arith, c.loop-mention.invariant.2, c.push_reserved.ensures.capacity),
 )
 
 pub returns : goal.returns

@@ -11,9 +11,9 @@ use Rattle.lines.proofs.drafts.+listed.Goals as goal
 
 pub returns-in-Some-Comma : goal.returns-in-Some-Comma
 returns-in-Some-Comma t c =
-    let pushed = chosen _ _ _ _ c.push.ensures.items (ap is_ok c.in-ok-push.was) in
-    let grown : namings c.push.new.self ≡ namings c.args.list ++ naming c.in-ok-mention.mention ∷ [] = ap (map naming) pushed ∙ map_push naming _ _ in
-    let step = name_step (map token c.args.words.now) _ (map token c.in-Some.rest.now) (naming c.in-ok-mention.mention) (token c.in-Some.word) c.in-ok-mention.ensures c.in-Some.ensures in
+    let pushed = chosen _ _ _ _ c.push.ensures.items (ap is_ok c.in_ok-push.was) in
+    let grown : namings c.push.new.self ≡ namings c.args.list ++ naming c.in_ok-mention.mention ∷ [] = ap (map naming) pushed ∙ map_push naming _ _ in
+    let step = name_step (map token c.args.words.now) _ (map token c.in-Some.rest.now) (naming c.in_ok-mention.mention) (token c.in-Some.word) c.in_ok-mention.ensures c.in-Some.ensures in
     let comma : separator_of (token c.in-Some.word) ≡ Some Comma = search rules in
     let is : before_all (namings c.args.list) (names_of (map token c.args.words.now)) ≡ before_all (namings c.push.new.self) (names_of (map token c.in-Some.rest.now)) =
     listed_more _ (map token c.args.words.now) _ _ _ step comma ∙ ap (λ l. before_all l (names_of (map token c.in-Some.rest.now))) (sym grown) in
@@ -21,7 +21,7 @@ returns-in-Some-Comma t c =
 
 pub returns-in-Some-Colon : goal.returns-in-Some-Colon
 returns-in-Some-Colon t c =
-    let pushed = chosen _ _ _ _ c.push.ensures.items (ap is_ok c.in-ok-push.was) in
-    let grown : namings c.push.new.self ≡ namings c.args.list ++ naming c.in-ok-mention.mention ∷ [] = ap (map naming) pushed ∙ map_push naming _ _ in
-    let step : names_of (map token c.args.words.now) ≡ Ok (naming c.in-ok-mention.mention ∷ []) = search rules in
+    let pushed = chosen _ _ _ _ c.push.ensures.items (ap is_ok c.in_ok-push.was) in
+    let grown : namings c.push.new.self ≡ namings c.args.list ++ naming c.in_ok-mention.mention ∷ [] = ap (map naming) pushed ∙ map_push naming _ _ in
+    let step : names_of (map token c.args.words.now) ≡ Ok (naming c.in_ok-mention.mention ∷ []) = search rules in
     ap (before_all (namings c.args.list)) step ∙ ap (λ l. Ok l) (sym grown)

@@ -16,5 +16,5 @@ operand-returns-in-ok-beyond t c = let deep = deeper c.args.depth (c.args.depth 
 
 pub expression-returns : goal.expression-returns
 expression-returns t c =
-    let is : expression_of c.args.depth (map token c.args.words.now) ≡ after_first (operand_of c.args.depth) (phrase c.in-ok-left.left) (map token c.in-ok-left.after.now) = search rules in
+    let is : expression_of c.args.depth (map token c.args.words.now) ≡ after_first (operand_of c.args.depth) (phrase c.in_ok-left.left) (map token c.in_ok-left.after.now) = search rules in
     rw is c.operation.ensures

@@ -11,7 +11,7 @@ returns-then-clashes c =
 pub loop-i-preserved : goal.loop-i-preserved
 loop-i-preserved c =
     let turned = clash_turn (record { text = record { ref_ptr = (0, 0); now = [] }; byte = 0 }) c.loop-i.invariant c.loop-i-test.true in
-    let off = simp c.split-at.ensures.front at c.if-clashes.ensures in
+    let off = simp c.split_at.ensures.front at c.if-clashes.ensures in
     record { rest = turned ∙ cond-false _ _ _ (sym off) }
 
 pub returns : goal.returns
