@@ -13,7 +13,7 @@ use queues::{LowestFirst, Pair, ReadyQueue, Ring, drain};
 
 // Prints what a queue holds and the order in which it hands that over, and leaves it empty.
 fn show<Q: ReadyQueue>(rt: &HostRuntime, name: &str, queue: &mut Q) -> anyhow::Result<()>
-    ensures { OnOk result (Empty (held queue.new)) }
+    ensures { OnOk result (Empty (Q.held queue.new)) }
 {
     let before = queue.count();
     let five = queue.holds(5);
@@ -27,7 +27,7 @@ fn show<Q: ReadyQueue>(rt: &HostRuntime, name: &str, queue: &mut Q) -> anyhow::R
 
 // Puts numbers, one of them twice and two of them too high, and shows the queue.
 fn serve<Q: ReadyQueue>(rt: &HostRuntime, name: &str, queue: &mut Q) -> anyhow::Result<()>
-    ensures { OnOk result (Empty (held queue.new)) }
+    ensures { OnOk result (Empty (Q.held queue.new)) }
 {
     for n in [5, 9, 2, 5, 64, 255, 63, 0] {
         queue.put(n);

@@ -6,16 +6,16 @@ use Rattle.queues.proofs.draining.drain.Goals as goal
 pub loop-queue-init : goal.loop-queue-init
 loop-queue-init g c = (moves_none _ _ _ refl, omega arith)
 
-pub returns-in-err-reserve : goal.returns-in-err-reserve
-returns-in-err-reserve g c =
+pub returns-in_err-reserve : goal.returns-in_err-reserve
+returns-in_err-reserve g c =
     let so = moves_same _ _ _ _ _ c.loop-queue.invariant.0 c.reserve.ensures.items in
-    let full : vec_capacity c.args.list.now ≤ vec_len c.reserve.new.self = omega (arith, c.in-err-reserve.ensures.full, c.loop-queue.invariant.1) in
-    record { moves = so; lost = moves_lost _ _ _ _ so; done = MatchResult-from_err c.from-residual.result _ _ c.from-residual.ensures.0 (λ _. full) }
+    let full : vec_capacity c.args.list.now ≤ vec_len c.reserve.new.self = omega (arith, c.in_err-reserve.ensures.full, c.loop-queue.invariant.1) in
+    record { moves = so; lost = moves_lost _ _ _ _ so; done = MatchResult-from_err c.from_residual.result _ _ c.from_residual.ensures.0 (λ _. full) }
 
-pub returns-in-default : goal.returns-in-default
-returns-in-default g c =
-    let so = moves_vain _ _ _ _ _ (moves_same _ _ _ _ _ c.loop-queue.invariant.0 c.reserve.ensures.items) c.in-default.ensures in
-    record { moves = so; lost = moves_lost _ _ _ _ so; done = c.in-default.ensures.1 }
+pub returns-in_default : goal.returns-in_default
+returns-in_default g c =
+    let so = moves_vain _ _ _ _ _ (moves_same _ _ _ _ _ c.loop-queue.invariant.0 c.reserve.ensures.items) c.in_default.ensures in
+    record { moves = so; lost = moves_lost _ _ _ _ so; done = c.in_default.ensures.1 }
 
 pub loop-queue-smaller : goal.loop-queue-smaller
 loop-queue-smaller g c = falls _ _ c.in-Some.n c.in-Some.ensures

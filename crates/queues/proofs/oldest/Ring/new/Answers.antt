@@ -4,8 +4,8 @@ use Rattle.queues.proofs.Rounds.{around_none}
 use Rattle.queues.proofs.Times.{once_none}
 use Rattle.queues.proofs.oldest.Ring.new.Goals as goal
 
-pub invariant-of-result : goal.invariant-of-result
-invariant-of-result c = (omega arith, (omega arith, (subst Once (sym (around_none (replicate 64 0) 0)) once_none, tt)))
+pub invariant_of-result : goal.invariant_of-result
+invariant_of-result c = record { turned = omega arith; short = omega arith; once = subst Once (sym (around_none (replicate 64 0) 0)) once_none }
 
 pub returns : goal.returns
 returns c =

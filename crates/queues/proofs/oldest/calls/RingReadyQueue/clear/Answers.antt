@@ -4,8 +4,8 @@ use Rattle.queues.proofs.Rounds.{around_none}
 use Rattle.queues.proofs.Times.{once_none}
 use Rattle.queues.proofs.oldest.calls.RingReadyQueue.clear.Goals as goal
 
-pub invariant-of-self : goal.invariant-of-self
-invariant-of-self c = (omega arith, (omega arith, (subst Once (sym (around_none c.args.self.now.places 0)) once_none, tt)))
+pub invariant_of-self : goal.invariant_of-self
+invariant_of-self c = record { turned = omega arith; short = omega arith; once = subst Once (sym (around_none c.args.self.now.places 0)) once_none }
 
 pub returns : goal.returns
 returns c =

@@ -7,8 +7,8 @@ use Rattle.queues.proofs.Rounds.{around_length, around_put}
 use Rattle.queues.proofs.Times.{once_last, puts_last, room}
 use Rattle.queues.proofs.oldest.calls.RingReadyQueue.put.Goals as goal
 
-pub invariant-of-self : goal.invariant-of-self
-invariant-of-self c =
+pub invariant_of-self : goal.invariant_of-self
+invariant_of-self c =
     let ring = c.args.self.now in
     let n = c.args.n in
     let small : n < 64 = omega arith in
@@ -17,7 +17,7 @@ invariant-of-self c =
     let size = around_length ring.places ring.head ring.len in
     let space : ring.len < 64 = omega (arith, room (line ring) n ring.once small free) in
     let grown = around_put ring.places ring.head ring.len n long space in
-    (omega arith, (omega arith, (subst Once (sym grown) (once_last (line ring) n small free ring.once), tt)))
+    record { turned = omega arith; short = omega arith; once = subst Once (sym grown) (once_last (line ring) n small free ring.once) }
 
 pub returns-then-not-holds : goal.returns-then-not-holds
 returns-then-not-holds c =

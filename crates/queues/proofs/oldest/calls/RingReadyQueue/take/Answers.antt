@@ -13,12 +13,12 @@ returns-then-self-eq0 c =
     let none : line ring ≡ [] = ap (around ring.places ring.head) c.if-self-eq0.true ∙ around_none ring.places ring.head in
     record { takes = subst (λ (ns : List ℕ). Takes (times ns) None (times ns)) (sym none) takes_none; order = (none, none) }
 
-pub invariant-of-self : goal.invariant-of-self
-invariant-of-self c =
+pub invariant_of-self : goal.invariant_of-self
+invariant_of-self c =
     let ring = c.args.self.now in
     let some : 0 < ring.len = omega arith in
     let split = around_take ring.places ring.head ring.len ring.turned some in
-    (omega arith, (omega arith, (once_tail _ _ (subst Once split ring.once), tt)))
+    record { turned = omega arith; short = omega arith; once = once_tail _ _ (subst Once split ring.once) }
 
 pub returns : goal.returns
 returns c =
