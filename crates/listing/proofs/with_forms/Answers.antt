@@ -4,7 +4,7 @@ use Rattle.lines.specs.Text.{entry}
 use Rattle.listing.proofs.Appended.{forms_behind}
 use Rattle.listing.proofs.with_forms.Goals as goal
 
-pub returns-in-ok-push-forms : goal.returns-in-ok-push-forms
-returns-in-ok-push-forms c =
-    let heading = chosen _ _ _ _ c.extend-from-slice.ensures.items (ap is_ok c.in-ok-extend-from-slice.was) in
-    forms_behind (vec_items c.in-Ok.out) c.args.text.now (map entry c.args.entries.now) c.in-Ok.ensures heading c.in-ok-push-forms.ensures refl
+pub returns-in_ok-push_forms-in-Ok : goal.returns-in_ok-push_forms-in-Ok
+returns-in_ok-push_forms-in-Ok c =
+    let heading = chosen _ _ _ _ c.extend_from_slice.ensures.items (ap is_ok c.in_ok-extend_from_slice-in-Ok.was) in
+    forms_behind (vec_items c.in-Ok.out) c.args.text.now (map entry c.args.entries.now) c.in-Ok.ensures heading c.in_ok-push_forms-in-Ok.ensures refl

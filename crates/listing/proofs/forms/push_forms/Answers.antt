@@ -8,7 +8,7 @@ pub loop-entry-preserved : goal.loop-entry-preserved
 loop-entry-preserved c =
     piece_more (λ e. entry_row (entry e)) (λ l. form_rows (map entry l)) refl (λ x xs. refl)
     c.args.entries.now c.loop-entry.entry-index (vec_items c.loop-entry.out) c.loop-entry.invariant
-    c.entry-item.result c.loop-entry-test.true (c.in-ok-push-form.ensures ∙ ap (λ e. vec_items c.loop-entry.out ++ entry_row (entry e)) c.entry-item.is)
+    c.entry-item.result c.loop-entry-test.true (c.in_ok-push_form.ensures ∙ ap (λ e. vec_items c.loop-entry.out ++ entry_row (entry e)) c.entry-item.is)
 
 pub returns : goal.returns
 returns c =
