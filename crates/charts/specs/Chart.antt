@@ -1,6 +1,6 @@
 -- The flowchart of a list of lines. The lines below a line, or beside it, are those of one level in the lines after it, up to the first with fewer.
-use Rattle.std.specs.Prelude.{Bool, true, false, cond, List, [], ◌∷◌, ℕ, zero, suc, ◌+◌, ◌-◌, eqb, ltb, length, get_or}
-use Rattle.expressions.specs.Expression.{Expression, truth}
+use Rattle.std.specs.Prelude.{true, cond, List, [], ◌∷◌, ℕ, zero, suc, ◌+◌, ◌-◌, eqb, ltb, length, get_or}
+use Rattle.expressions.specs.Expression.{truth}
 use Rattle.rules.specs.declared.Kind.{Kind}
 use Rattle.rules.specs.declared.Place.{Place}
 use Rattle.rules.specs.declared.Place.TheVariants.{Line, End}

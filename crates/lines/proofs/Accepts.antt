@@ -1,16 +1,16 @@
 -- What the grammar makes of a line's words is read.
-use Rattle.std.proofs.Common.{◌≡◌, ℕ, true, false, ◌⊎◌, List, [], ◌∷◌, ◌++◌, Some, None, Ok, Err, Option, sym, refl, ap, ◌∙◌, subst, inl, inr, ⊎_elim, arith}
+use Rattle.std.proofs.Common.{◌≡◌, ℕ, true, ◌⊎◌, List, [], ◌∷◌, ◌++◌, Some, None, Ok, Option, sym, refl, ap, ◌∙◌, subst, inl, inr, ⊎_elim, arith}
 use Rattle.std.proofs.lemmas.List.{append-nil, append_assoc}
 use Rattle.std.proofs.lemmas.Bool.{cond-true, cond-false}
 use Rattle.words.specs.Token.{Token, number}
 use Rattle.words.specs.declared.vocabulary.Keyword.TheVariants as key
 use Rattle.words.specs.declared.vocabulary.Sign.TheVariants as mark
 use Rattle.lines.specs.Answer.{Answer, onward}
-use Rattle.lines.specs.Grammar.{Sort, operand, expression, Makes, of_named, of_numbered, of_truthful, in_brackets, one, prefixed, two, MakesNames, last, more, AreKeys, lone_key, MakesLine, for_variables, for_channels, for_place, for_lone, for_assign, for_input, for_output, for_while, for_choice, for_guard, for_skip_guard}
+use Rattle.lines.specs.Grammar.{operand, expression, Makes, of_named, of_numbered, of_truthful, in_brackets, one, prefixed, two, MakesNames, last, more, AreKeys, lone_key, MakesLine, for_variables, for_channels, for_place, for_lone, for_assign, for_input, for_output, for_while, for_choice, for_guard, for_skip_guard}
 use Rattle.lines.specs.Phrases.{past, expression_of}
-use Rattle.lines.specs.Roles.{of_name, of_number, of_truth, leaf_of, prefix_of, operator_of, opening_of, naming_of, verb_of, separator_of, is_key, is_sign}
-use Rattle.lines.specs.Sentences.{ended, named_by, name_first, name_last, whole_of, listed_by, names_of, address_of, input_of, guard_by, guarded_of, guard_of, condition_of, acted_of, action_by, action_of, process_by, process_of, sentence_by, sentence_of}
-use Rattle.lines.specs.Syntax.{Naming, Phrase, Sentence, variables, channels, place, lone, assign, input, output, while, choice, guard, skip_guard}
+use Rattle.lines.specs.Roles.{operator_of, opening_of, naming_of, verb_of, separator_of, is_sign}
+use Rattle.lines.specs.Sentences.{ended, named_by, name_last, whole_of, listed_by, names_of, address_of, input_of, guard_by, guarded_of, guard_of, condition_of, acted_of, action_by, action_of, process_by, sentence_by, sentence_of}
+use Rattle.lines.specs.Syntax.{Naming, Phrase, Sentence, variables, channels, place, lone, assign, input, output, while, guard}
 use Rattle.lines.specs.declared.syntax.Lone.{Lone}
 use Rattle.lines.specs.declared.syntax.Lone.TheVariants as alone
 use Rattle.lines.specs.declared.vocabulary.Opening.{Opening}
@@ -19,7 +19,7 @@ use Rattle.lines.specs.declared.vocabulary.Point.TheVariants as point
 use Rattle.lines.specs.declared.vocabulary.Separator.TheVariants.{Comma, Colon}
 use Rattle.lines.specs.declared.vocabulary.Verb.{Verb}
 use Rattle.lines.specs.declared.vocabulary.Verb.TheVariants as verb
-use Rattle.lines.proofs.Parsed.{NoOperator, complete}
+use Rattle.lines.proofs.Parsed.{complete}
 use Rattle.lines.proofs.Words.{by_sign, by_key, leaf_other, prefix_other, name_other, operator_no_verb}
 
 names_read : {ts : List Token} {ns : List Naming} → MakesNames ts ns → names_of ts ≡ Ok ns

@@ -1,5 +1,5 @@
 -- What is read of a line's words the grammar makes of them, and where nothing is read it makes nothing.
-use Rattle.std.proofs.Common.{◌≡◌, ℕ, true, false, ◌⊎◌, List, [], ◌∷◌, ◌++◌, ℤ, Some, None, Ok, Err, Option, sym, refl, ap, ◌∙◌, subst, inl, inr, arith}
+use Rattle.std.proofs.Common.{◌≡◌, ℕ, true, List, [], ◌∷◌, ◌++◌, ℤ, Some, None, Ok, Err, Option, sym, refl, ap, ◌∙◌, subst, inl, inr, arith}
 use Rattle.std.proofs.lemmas.List.{append-nil}
 use Rattle.std.proofs.lemmas.Bool.{cond_both}
 use Rattle.words.specs.Token.{Token}
@@ -10,8 +10,8 @@ use Rattle.lines.specs.Answer.{Answer, onward, UnlessMemory}
 use Rattle.lines.specs.Grammar.{expression, Makes, MakesNames, last, more, MakesLine, for_variables, for_channels, for_place, for_lone, for_assign, for_input, for_output, for_while, for_choice, for_guard, for_skip_guard, RightForm}
 use Rattle.lines.specs.Phrases.{Read, past, expression_of}
 use Rattle.lines.specs.Roles.{opening_of, naming_of, verb_of, separator_of, is_point, is_sign, is_key}
-use Rattle.lines.specs.Sentences.{ended, named_by, name_first, name_last, whole_of, separated, listed_by, names_of, numbered, number_first, channels_of, address_of, place_of, input_of, guard_by, guarded_of, guard_of, condition_of, acted_of, action_by, action_of, process_by, process_of, sentence_by, sentence_of}
-use Rattle.lines.specs.Syntax.{Naming, Phrase, Sentence, variables, channels, place, lone, assign, input, output, while, choice, guard, skip_guard}
+use Rattle.lines.specs.Sentences.{ended, named_by, name_first, name_last, whole_of, listed_by, names_of, number_first, channels_of, address_of, place_of, input_of, guard_by, guarded_of, guard_of, condition_of, acted_of, action_by, process_by, process_of, sentence_by, sentence_of}
+use Rattle.lines.specs.Syntax.{Naming, Phrase, Sentence, place, lone, guard, skip_guard}
 use Rattle.lines.specs.declared.refusal.Flaw.TheVariants.{NoForm}
 use Rattle.lines.specs.declared.syntax.Lone.TheVariants as alone
 use Rattle.lines.specs.declared.vocabulary.Opening.{Opening}

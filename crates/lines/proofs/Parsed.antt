@@ -1,14 +1,14 @@
 -- Expressions, by the grammar: what the grammar makes is read, and what is read the grammar makes.
-use Rattle.std.proofs.Common.{◌≡◌, ℕ, zero, suc, Bool, true, false, cond, List, [], ◌∷◌, ◌++◌, Some, None, Ok, Err, Option, sym, refl, ap, ◌∙◌, subst, arith}
+use Rattle.std.proofs.Common.{◌≡◌, ℕ, zero, suc, List, [], ◌∷◌, ◌++◌, Some, None, Ok, Err, Option, sym, refl, ap, ◌∙◌, subst, arith}
 use Rattle.std.proofs.lemmas.List.{append_assoc}
 use Rattle.std.proofs.lemmas.Bool.{cond-true, cond_both}
 use Rattle.expressions.specs.declared.Dyadic.{Dyadic}
 use Rattle.words.specs.Token.{Token}
 use Rattle.words.specs.declared.vocabulary.Sign.TheVariants as mark
-use Rattle.lines.specs.Answer.{Answer, onward}
+use Rattle.lines.specs.Answer.{onward}
 use Rattle.lines.specs.Grammar.{Sort, operand, expression, Makes, of_named, of_numbered, of_truthful, in_brackets, one, prefixed, two}
-use Rattle.lines.specs.Phrases.{Read, past, closed, operand_at, operand_by, with_prefix, second_at, after_first, prefix_at, expression_by, bracket_of, operand_of, expression_of}
-use Rattle.lines.specs.Roles.{Start, of_name, of_number, of_truth, bracket, stranger, leaf_of, prefix_of, operator_of, is_sign, is_point}
+use Rattle.lines.specs.Phrases.{Read, closed, operand_at, operand_by, with_prefix, second_at, after_first, prefix_at, expression_by, bracket_of, operand_of, expression_of}
+use Rattle.lines.specs.Roles.{Start, of_name, of_number, of_truth, bracket, stranger, leaf_of, prefix_of, operator_of, is_point}
 use Rattle.lines.specs.Syntax.{Phrase, dyadic}
 use Rattle.lines.specs.declared.refusal.Flaw.TheVariants.{NoForm}
 use Rattle.lines.specs.declared.vocabulary.Point.TheVariants.{Close}

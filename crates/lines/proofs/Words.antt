@@ -1,5 +1,5 @@
 -- What a word that is a given keyword or sign is to the grammar.
-use Rattle.std.proofs.Common.{◌≡◌, ℕ, Bool, true, false, cond, eqb, List, [], ◌∷◌, Some, None, Option, sym, refl, ap, ◌∙◌, arith}
+use Rattle.std.proofs.Common.{◌≡◌, ℕ, true, false, cond, eqb, List, [], ◌∷◌, Some, None, Option, sym, refl, ap, ◌∙◌, arith}
 use Rattle.std.proofs.lemmas.Bool.{cond_both, eqb-true}
 use Rattle.words.specs.Token.{Token, name, keyword, number, sign}
 use Rattle.words.specs.declared.vocabulary.Keyword.{Keyword}

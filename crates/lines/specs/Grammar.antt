@@ -8,7 +8,7 @@ use Rattle.words.specs.declared.vocabulary.Keyword.TheVariants as key
 use Rattle.words.specs.declared.vocabulary.Sign.TheVariants as mark
 use Rattle.lines.specs.Answer.{Answer}
 use Rattle.lines.specs.Phrases.{with_prefix}
-use Rattle.lines.specs.Roles.{is_key, is_sign, naming_of, leaf_of, of_name, of_number, of_truth, bracket, prefix_of, operator_of}
+use Rattle.lines.specs.Roles.{is_key, is_sign, naming_of, leaf_of, of_name, of_number, of_truth, prefix_of, operator_of}
 use Rattle.lines.specs.Syntax.{Naming, Phrase, name, number, truth, dyadic, Sentence, variables, channels, place, lone, assign, input, output, while, choice, guard, skip_guard}
 use Rattle.lines.specs.declared.refusal.Flaw.TheVariants.{NoForm, Memory}
 use Rattle.lines.specs.declared.syntax.Lone.{Lone}

@@ -10,7 +10,6 @@ use Rattle.lines.specs.Phrases.{Read, past, expression_of, words_left}
 use Rattle.lines.specs.Roles.{naming_of, opening_of, separator_of, verb_of, is_point}
 use Rattle.lines.specs.Syntax.{Naming, Phrase, Sentence, variables, channels, place, lone, assign, input, output, while, choice, guard, skip_guard, naming}
 use Rattle.lines.specs.declared.refusal.Flaw.TheVariants.{NoForm}
-use Rattle.lines.specs.declared.syntax.Lone.{Lone}
 use Rattle.lines.specs.declared.syntax.Lone.TheVariants.{PriAlt}
 use Rattle.lines.specs.declared.syntax.Mention.{Mention}
 use Rattle.lines.specs.declared.vocabulary.Opening.{Opening}

@@ -1,5 +1,5 @@
 -- The names that are declared, and what a line may do with a name.
-use Rattle.std.specs.Prelude.{ℕ, ◌+◌, Bool, cond, ◌||◌, List, [], ◌∷◌, ◌++◌, map, is_some, Some, None, Ok, Err, vec_items, Option, ◌==◌}
+use Rattle.std.specs.Prelude.{ℕ, Bool, cond, ◌||◌, List, [], ◌∷◌, ◌++◌, map, is_some, Some, None, Ok, Err, vec_items, Option, ◌==◌}
 use Rattle.expressions.specs.Expression as expression
 use Rattle.expressions.specs.Expression.{Expression}
 use Rattle.expressions.specs.declared.variables.Variable.{Variable}

@@ -4,7 +4,6 @@ use mathlib.Core.Path.{fun_ext}
 use Rattle.rules.specs.Types.{None, [], ◌≡◌, ℕ}
 use Rattle.rules.specs.Calls.{Machine}
 use Rattle.rules.specs.History.{Engine, Reached, new}
-use Rattle.rules.specs.Promise.{ended}
 use Rattle.rules.specs.Turns.{Tables}
 
 pub same_tables : (t t' : Tables) → ((x : ℕ) → t.variables x ≡ t'.variables x) → ((p : ℕ) → t.place p ≡ t'.place p) →

@@ -1,6 +1,5 @@
 -- The example histories, computed call by call.
 use Rattle.std.proofs.Common.{refl, arith, lit<}
-use Rattle.expressions.specs.Expression.{number}
 use Rattle.expressions.specs.Value.{value}
 use Rattle.rules.specs.Types.{End, Ended, Err, Finished, Held, Incoming, Line, LinkHolds, List, Moved, NoLink, NoOutput, NoProgram, None, Ok, Passed, Slept, Some, Taken, Waits, [], ◌++◌, ◌∷◌, ◌≡◌, ◌≢◌, int_value, pos, suc, truth_value, zero, ℕ}
 use Rattle.rules.specs.Calls.{Counts, Machine, all_ready, at_link, awaits, finishes, idles, lowered, no_link, no_program, readied, turns, writing}

@@ -1,4 +1,4 @@
-use Rattle.std.proofs.Common.{ℕ, List, map, vec_items, refl}
+use Rattle.std.proofs.Common.{map, vec_items, refl}
 use Rattle.words.specs.Token.{token}
 use Rattle.listing.specs.Listing.{row_of, rows_of}
 use Rattle.listing.proofs.Appended.{piece_more, pieces_all}

@@ -4,7 +4,7 @@ use Rattle.std.proofs.lemmas.List.{map_push}
 use Rattle.std.proofs.lemmas.Result.{err_from_is_err_and}
 use Rattle.lines.specs.Lines.{stated_with}
 use Rattle.lines.specs.Text.{entry}
-use Rattle.lines.proofs.Texts.{none_yet, line_fault, line_blank, line_more, lines_done, entered_as}
+use Rattle.lines.proofs.Texts.{line_fault, line_blank, line_more, lines_done, entered_as}
 use Rattle.lines.proofs.text.read_forms.Goals as goal
 
 pub returns-in_err-statement : goal.returns-in_err-statement
