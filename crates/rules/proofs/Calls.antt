@@ -1,7 +1,7 @@
 -- Load, step, offer and take keep the tables sound and the queue in step with them, and their answers mean what they say.
-use Rattle.std.proofs.Common.{sym, refl, ap, ◌∙◌, subst, arith}
+use Rattle.std.proofs.Common.{sym, refl, ap, ◌∙◌, subst, arith, Bool, Err, List, None, Ok, Result, Some, [], ◌<◌, ◌∷◌, ◌≡◌, ◌≢◌, false, true, ℕ, ℤ}
 use mathlib.Core.Path.{fun_ext}
-use Rattle.rules.specs.Types.{Absent, Answer, At, Bool, End, Ended, Err, Finished, Halted, Held, Holding, Incoming, Line, LinkHolds, List, Moved, NoLink, NoOutput, None, Ok, Outgoing, Passed, Place, Refusal, Result, Slept, Some, Standing, Stuck, Taken, Waits, [], ◌<◌, ◌∷◌, ◌≡◌, ◌≢◌, false, true, ℕ, ℤ}
+use Rattle.rules.specs.Types.{Absent, Answer, At, End, Ended, Finished, Halted, Held, Holding, Incoming, Line, LinkHolds, Moved, NoLink, NoOutput, Outgoing, Passed, Place, Refusal, Slept, Standing, Stuck, Taken, Waits}
 use Rattle.rules.specs.Calls.{Counts, Gives, IdleAnswer, Machine, Offer, StepBy, Take, after_turn, all_ready, at_link, awaits, finishes, idles, lowered, no_link, no_program, offer_to, readied, sticks, take_from, turns}
 use Rattle.rules.specs.Flowchart.{Program, input, output}
 use Rattle.rules.specs.Functions.{changed}

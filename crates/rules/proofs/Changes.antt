@@ -1,7 +1,6 @@
 -- Laws of a function changed at one place.
-use Rattle.std.proofs.Common.{sym, refl, ap, ◌∙◌, subst}
+use Rattle.std.proofs.Common.{sym, refl, ap, ◌∙◌, subst, ◌≡◌, ◌≢◌, eqb, ℕ}
 use Rattle.std.proofs.lemmas.Bool.{cond_both, cond-false, cond-true, eq-eqb, eqb-false, eqb-true, ne_eqb}
-use Rattle.rules.specs.Types.{◌≡◌, ◌≢◌, eqb, ℕ}
 use Rattle.rules.specs.Functions.{changed}
 
 pub changed_case : {A : Type 0} (f : ℕ → A) (i : ℕ) (v : A) (j : ℕ) (P : A → Type 0) → (j ≡ i → P v) → (j ≢ i → P (f j)) → P (changed f i v j)

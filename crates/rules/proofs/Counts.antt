@@ -1,7 +1,6 @@
 -- How often a queue holds each number, against who is ready.
-use Rattle.std.proofs.Common.{refl, ap, ◌∙◌, arith}
+use Rattle.std.proofs.Common.{refl, ap, ◌∙◌, arith, Bool, List, [], ◌&&◌, ◌<◌, ◌∷◌, ◌≡◌, cond, eqb, false, ltb, true, ℕ}
 use Rattle.std.proofs.lemmas.Bool.{and_from, cond_both, cond-false, cond-true, eq-eqb, lt-ltb, ne_eqb}
-use Rattle.rules.specs.Types.{Bool, List, [], ◌&&◌, ◌<◌, ◌∷◌, ◌≡◌, cond, eqb, false, ltb, true, ℕ}
 use Rattle.rules.specs.Calls.{Counts, all_ready, lowered, readied}
 use Rattle.rules.specs.Functions.{All, changed}
 use Rattle.rules.proofs.Branches.{marks}

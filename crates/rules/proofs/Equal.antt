@@ -1,7 +1,6 @@
 -- Tables and states are equal where their parts are: what the engine's code shows part by part.
-use Rattle.std.proofs.Common.{sym, refl, subst}
+use Rattle.std.proofs.Common.{sym, refl, subst, None, [], ◌≡◌, ℕ}
 use mathlib.Core.Path.{fun_ext}
-use Rattle.rules.specs.Types.{None, [], ◌≡◌, ℕ}
 use Rattle.rules.specs.Calls.{Machine}
 use Rattle.rules.specs.History.{Engine, Reached, new}
 use Rattle.rules.specs.Turns.{Tables}

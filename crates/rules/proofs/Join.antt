@@ -1,6 +1,6 @@
 -- The join: when the last branch ends, the holder goes on and the branches are gone.
-use Rattle.std.proofs.Common.{sym, refl, ap, ◌∙◌, subst, arith}
-use Rattle.rules.specs.Types.{Absent, At, Bool, End, Holding, Line, List, Place, Standing, ◌<◌, ◌≡◌, ◌≢◌, ◌⊎◌, false, inl, inr, true, ℕ}
+use Rattle.std.proofs.Common.{sym, refl, ap, ◌∙◌, subst, arith, Bool, List, ◌<◌, ◌≡◌, ◌≢◌, ◌⊎◌, false, true, ℕ}
+use Rattle.rules.specs.Types.{Absent, At, End, Holding, Line, Place, Standing, inl, inr}
 use Rattle.rules.specs.Flowchart.{Branch, Program, par}
 use Rattle.rules.specs.Functions.{In, changed}
 use Rattle.rules.specs.Primary.{leaves}

@@ -1,7 +1,6 @@
 -- From rows in lists to functions of numbers.
-use Rattle.std.proofs.Common.{set, ap, ◌∙◌, get_or-set_other, get_or-set_same}
+use Rattle.std.proofs.Common.{set, ap, ◌∙◌, get_or-set_other, get_or-set_same, List, ◌<◌, ◌≡◌, get_or, length, ℕ}
 use mathlib.Core.Path.{fun_ext}
-use Rattle.rules.specs.Types.{List, ◌<◌, ◌≡◌, get_or, length, ℕ}
 use Rattle.rules.specs.Functions.{changed}
 use Rattle.rules.proofs.Changes.{changed_case}
 

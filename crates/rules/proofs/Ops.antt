@@ -1,6 +1,6 @@
 -- The small changes that turns, offers and takes are made of, each of which keeps the tables sound.
-use Rattle.std.proofs.Common.{sym, refl, ap, ◌∙◌, subst, arith}
-use Rattle.rules.specs.Types.{At, Bool, End, Holding, Line, List, Place, Standing, [], ◌∷◌, ◌≡◌, ◌≢◌, false, true, ℕ, ℤ}
+use Rattle.std.proofs.Common.{sym, refl, ap, ◌∙◌, subst, arith, Bool, List, [], ◌∷◌, ◌≡◌, ◌≢◌, false, true, ℕ, ℤ}
+use Rattle.rules.specs.Types.{At, End, Holding, Line, Place, Standing}
 use Rattle.rules.specs.Flowchart.{Program}
 use Rattle.rules.specs.Functions.{All, changed}
 use Rattle.rules.specs.Turns.{Record, Tables, chooser, empty, go, outside, reader, write, writer}

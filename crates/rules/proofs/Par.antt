@@ -1,6 +1,6 @@
 -- PAR, and the end of a branch that is not the last.
-use Rattle.std.proofs.Common.{sym, refl, ap, ◌∙◌, subst, arith}
-use Rattle.rules.specs.Types.{At, Bool, End, Holding, Line, List, Place, Standing, Store, ◌<◌, ◌∷◌, ◌≡◌, ◌≢◌, ◌⊎◌, false, inl, inr, map, true, ℕ}
+use Rattle.std.proofs.Common.{sym, refl, ap, ◌∙◌, subst, arith, Bool, List, ◌<◌, ◌∷◌, ◌≡◌, ◌≢◌, ◌⊎◌, false, map, true, ℕ}
+use Rattle.rules.specs.Types.{At, End, Holding, Line, Place, Standing, Store, inl, inr}
 use Rattle.rules.specs.Flowchart.{Branch, Program, par}
 use Rattle.rules.specs.Functions.{All, In, changed}
 use Rattle.rules.specs.Primary.{starts}

@@ -1,7 +1,7 @@
 -- The example histories, computed call by call.
-use Rattle.std.proofs.Common.{refl, arith, lit<}
+use Rattle.std.proofs.Common.{refl, arith, lit<, Err, List, None, Ok, Some, [], ◌++◌, ◌∷◌, ◌≡◌, ◌≢◌, pos, suc, zero, ℕ}
 use Rattle.expressions.specs.Value.{value}
-use Rattle.rules.specs.Types.{End, Ended, Err, Finished, Held, Incoming, Line, LinkHolds, List, Moved, NoLink, NoOutput, NoProgram, None, Ok, Passed, Slept, Some, Taken, Waits, [], ◌++◌, ◌∷◌, ◌≡◌, ◌≢◌, int_value, pos, suc, truth_value, zero, ℕ}
+use Rattle.rules.specs.Types.{End, Ended, Finished, Held, Incoming, Line, LinkHolds, Moved, NoLink, NoOutput, NoProgram, Passed, Slept, Taken, Waits, int_value, truth_value}
 use Rattle.rules.specs.Calls.{Counts, Machine, all_ready, at_link, awaits, finishes, idles, lowered, no_link, no_program, readied, turns, writing}
 use Rattle.rules.specs.Examples.{ExamplesStand, echo, echo_calls, nested, nested_calls}
 use Rattle.rules.specs.Flowchart.{Program}

@@ -1,9 +1,9 @@
 -- The wrong engines break the promise: for each a program and a history at whose state it fails.
-use Rattle.std.proofs.Common.{sym, refl, ap, ◌∙◌, subst, arith, lit<}
+use Rattle.std.proofs.Common.{sym, refl, ap, ◌∙◌, subst, arith, lit<, List, None, Ok, Option, Result, Some, [], ◌&&◌, ◌<◌, ◌∷◌, ◌≡◌, ◌≢◌, ◌≤◌, eqb, ltb, pos, suc, true, zero, ℕ}
 use Rattle.std.proofs.lemmas.Bool.{cond-false, ne_eqb}
 use Rattle.expressions.specs.Expression.{number}
 use Rattle.expressions.specs.Value.{value}
-use Rattle.rules.specs.Types.{Absent, Answer, At, End, Held, Holding, Line, List, Moved, None, Ok, Option, Passed, Refusal, Result, Slept, Some, Stuck, [], ◌&&◌, ◌<◌, ◌∷◌, ◌≡◌, ◌≢◌, ◌≤◌, eqb, int_value, ltb, pos, suc, true, truth_value, zero, ℕ}
+use Rattle.rules.specs.Types.{Absent, Answer, At, End, Held, Holding, Line, Moved, Passed, Refusal, Slept, Stuck, int_value, truth_value}
 use Rattle.rules.specs.Calls.{Counts, Gives, Machine, SleepsOnLink, StepBy, all_ready, at_link, choosing, idles, lowered, readied, reading, sticks, turns, writing}
 use Rattle.rules.specs.Examples.{couple, echo}
 use Rattle.rules.specs.Flowchart.{Node, Program, alt, assignment, input, output, par, skip, stop, test}

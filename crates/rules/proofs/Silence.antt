@@ -1,6 +1,6 @@
 -- Where the outside's puts and takes let no rule fire, no offer or take of the engine's own does.
-use Rattle.std.proofs.Common.{sym, ◌∙◌, subst}
-use Rattle.rules.specs.Types.{Answer, Err, Held, List, Ok, Refusal, Result, Some, Taken, ◌≡◌, ℕ, ℤ}
+use Rattle.std.proofs.Common.{sym, ◌∙◌, subst, Err, List, Ok, Result, Some, ◌≡◌, ℕ, ℤ}
+use Rattle.rules.specs.Types.{Answer, Held, Refusal, Taken}
 use Rattle.rules.specs.Calls.{Machine, Offer, Take}
 use Rattle.rules.specs.Flowchart.{Program}
 use Rattle.rules.specs.History.{also_told, engine, offered, took}

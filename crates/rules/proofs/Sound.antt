@@ -1,5 +1,6 @@
 -- What the engine's tables and its queue keep between calls.
-use Rattle.rules.specs.Types.{Absent, At, Bool, End, Expression, Holding, Incoming, Line, List, None, Place, Some, Standing, Store, [], ◌<◌, ◌∷◌, ◌≡◌, ◌≢◌, ◌⊎◌, false, int_value, true, truth_value, ℕ, ℤ}
+use Rattle.std.proofs.Common.{Bool, List, None, Some, [], ◌<◌, ◌∷◌, ◌≡◌, ◌≢◌, ◌⊎◌, false, true, ℕ, ℤ}
+use Rattle.rules.specs.Types.{Absent, At, End, Expression, Holding, Incoming, Line, Place, Standing, Store, int_value, truth_value}
 use Rattle.rules.specs.Flowchart.{Branch, Guard, Node, Program, alt, assignment, input, input_guard, output, par, skip, skip_guard, stop, test}
 use Rattle.rules.specs.Functions.{All, In}
 use Rattle.rules.specs.Turns.{Record, Tables, all_valued, chooser, empty, outside, reader, writer}

@@ -1,8 +1,8 @@
 -- A turn of a ready process fires a rule or none, meets no record without a rule, and keeps the tables sound.
-use Rattle.std.proofs.Common.{sym, refl, ap, ◌∙◌, subst, arith}
+use Rattle.std.proofs.Common.{sym, refl, ap, ◌∙◌, subst, arith, Bool, List, None, Option, Some, [], ◌<◌, ◌∷◌, ◌≡◌, ◌≢◌, ◌⊎◌, cond, eqb, false, map, true, ℕ, ℤ}
 use mathlib.Core.Path.{fun_ext}
 use Rattle.std.proofs.lemmas.Bool.{cases_eq, cond_both, eqb-false, eqb-true}
-use Rattle.rules.specs.Types.{Absent, Answer, At, Bool, End, Ended, Expression, Finished, Halted, Held, Holding, Incoming, Internal, Kind, Line, List, Moved, None, Option, Outgoing, Passed, Place, Slept, Some, Standing, Store, Stuck, Taken, Waits, [], ◌<◌, ◌∷◌, ◌≡◌, ◌≢◌, ◌⊎◌, cond, eqb, false, inl, inr, int_value, map, true, truth_value, ℕ, ℤ}
+use Rattle.rules.specs.Types.{Absent, Answer, At, End, Ended, Expression, Finished, Halted, Held, Holding, Incoming, Internal, Kind, Line, Moved, Outgoing, Passed, Place, Slept, Standing, Store, Stuck, Taken, Waits, inl, inr, int_value, truth_value}
 use Rattle.rules.specs.Flowchart.{Branch, Guard, Node, Program, alt, assignment, input, input_guard, output, par, skip, skip_guard, stop, test}
 use Rattle.rules.specs.Functions.{All, In, changed}
 use Rattle.rules.specs.Primary.{Fires, Receives, Sends, State, Told, assigns, by_guard, by_input, communicates, joins, leaves, links_in, passes_par, sent, skips, starts_par, takes_skip, tests}

@@ -1,5 +1,5 @@
 -- From what each process uses, its descendants' uses with it, to lines that are apart.
-use Rattle.rules.specs.Types.{◌<◌, ◌≡◌, ◌≢◌, ℕ}
+use Rattle.std.proofs.Common.{◌<◌, ◌≡◌, ◌≢◌, ℕ}
 use Rattle.rules.specs.Flowchart.{Program}
 use Rattle.rules.specs.WellFormed.{Apart, LineInputs, LineOutputs, LineReads, LineWrites, Under, below, itself}
 

@@ -1,5 +1,6 @@
 -- What the answers and refusals of step, offer and take hold, case by case.
-use Rattle.rules.specs.Types.{Bool, true, false, ℕ, ℤ, Option, Some, None, Answer, Halted, Moved, Slept, Passed, Ended, Finished, Waits, Stuck, Taken, Held, Refusal, NoProgram, NoLink, LinkHolds, NoOutput, NoRule, Host, Fault}
+use Rattle.std.specs.Prelude.{Bool, true, false, ℕ, ℤ, Option, Some, None}
+use Rattle.rules.specs.Types.{Answer, Halted, Moved, Slept, Passed, Ended, Finished, Waits, Stuck, Taken, Held, Refusal, NoProgram, NoLink, LinkHolds, NoOutput, NoRule, Host, Fault}
 
 -- an answer's process, its channel and value, and whether it tells them as a communication
 abbrev pub contents : Answer → Option ℕ × Option (ℕ × ℤ) × Bool

@@ -1,5 +1,6 @@
 -- The engine's calls, over any queue: a queue means how often it holds each number.
-use Rattle.rules.specs.Types.{cond, ◌&&◌, ◌≡◌, ◌≢◌, List, [], ◌∷◌, ℕ, ◌-◌, ◌<◌, eqb, ltb, ℤ, Option, Some, None, Result, Ok, Err, Outgoing, Incoming, Answer, Finished, Waits, Stuck, Taken, Held, Refusal, NoProgram, NoLink, LinkHolds, NoOutput, NoRule}
+use Rattle.std.specs.Prelude.{cond, ◌&&◌, ◌≡◌, ◌≢◌, List, [], ◌∷◌, ℕ, ◌-◌, ◌<◌, eqb, ltb, ℤ, Option, Some, None, Result, Ok, Err}
+use Rattle.rules.specs.Types.{Outgoing, Incoming, Answer, Finished, Waits, Stuck, Taken, Held, Refusal, NoProgram, NoLink, LinkHolds, NoOutput, NoRule}
 use Rattle.rules.specs.Flowchart.{Program}
 use Rattle.rules.specs.Primary.{HasEnded}
 use Rattle.rules.specs.Turns.{Record, empty, reader, writer, chooser, outside, Tables, view, go, write, mark, variable_at, follower, Turn, no_rule, did}

@@ -4,7 +4,8 @@ use Rattle.integers.specs.declared.Comparison.TheVariants.{Equal, Less}
 use Rattle.expressions.specs.declared.Dyadic.TheVariants.{Arithmetic, Compare}
 use Rattle.expressions.specs.Expression.{number, truth, variable, dyadic}
 use Rattle.faults.specs.declared.Layer.TheVariants.{Lines}
-use Rattle.rules.specs.Types.{true, ◌≡◌, List, [], ◌∷◌, ℕ, get_or, pos, Ok, Err, Expression, Line, End, Kind, Internal, Outgoing, Incoming, Moved, Slept, Passed, Ended, Finished, Waits, Taken, Held, NoProgram, NoLink, LinkHolds, NoOutput}
+use Rattle.std.specs.Prelude.{true, ◌≡◌, List, [], ◌∷◌, ℕ, get_or, pos, Ok, Err}
+use Rattle.rules.specs.Types.{Expression, Line, End, Kind, Internal, Outgoing, Incoming, Moved, Slept, Passed, Ended, Finished, Waits, Taken, Held, NoProgram, NoLink, LinkHolds, NoOutput}
 use Rattle.rules.specs.Flowchart.{skip_guard, input_guard, Node, assignment, stop, input, output, test, par, alt, Program}
 use Rattle.rules.specs.Primary.{sent}
 use Rattle.rules.specs.WellFormed.{WellFormed}

@@ -1,5 +1,6 @@
 -- A program as a flowchart: nodes by line, kinds of channel, the tree of processes.
-use Rattle.rules.specs.Types.{List, ℕ, Expression, Place, Kind}
+use Rattle.std.specs.Prelude.{List, ℕ}
+use Rattle.rules.specs.Types.{Expression, Place, Kind}
 
 -- a guard of an ALT: `condition & SKIP`, or `condition & channel ? variable`, and the place of its process
 pub data Guard : Type 0 where

@@ -1,5 +1,5 @@
 -- Functions of numbers, and lists.
-use Rattle.rules.specs.Types.{◌≡◌, ◌⊎◌, cond, List, [], ◌∷◌, ℕ, eqb}
+use Rattle.std.specs.Prelude.{◌≡◌, ◌⊎◌, cond, List, [], ◌∷◌, ℕ, eqb}
 
 -- the function with the value v at i, and unchanged elsewhere
 unfoldable pub changed : {A : Type 0} → (ℕ → A) → ℕ → A → ℕ → A

@@ -1,5 +1,6 @@
 -- Histories: lists of calls with their answers, and the states that they lead to.
-use Rattle.rules.specs.Types.{cond, ◌≡◌, List, [], ◌∷◌, ◌++◌, ℕ, ℤ, Option, Some, None, Result, Ok, Err, Answer, Refusal, Fault}
+use Rattle.std.specs.Prelude.{cond, ◌≡◌, List, [], ◌∷◌, ◌++◌, ℕ, ℤ, Option, Some, None, Result, Ok, Err}
+use Rattle.rules.specs.Types.{Answer, Refusal, Fault}
 use Rattle.rules.specs.Answers.{contents, message_of}
 use Rattle.rules.specs.Flowchart.{Program}
 use Rattle.rules.specs.Primary.{Told, sent, tell}

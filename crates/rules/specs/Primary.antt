@@ -1,5 +1,6 @@
 -- The primary rules: which rules can fire in a state, what each tells and leaves, and the runs made of them.
-use Rattle.rules.specs.Types.{Bool, true, cond, ◌≡◌, List, [], ◌∷◌, ◌++◌, map, ℕ, ℤ, pos, Option, Some, None, Expression, Store, int_value, truth_value, Place, Line, End, Standing, Absent, Holding, At, Outgoing, Incoming}
+use Rattle.std.specs.Prelude.{Bool, true, cond, ◌≡◌, List, [], ◌∷◌, ◌++◌, map, ℕ, ℤ, pos, Option, Some, None}
+use Rattle.rules.specs.Types.{Expression, Store, int_value, truth_value, Place, Line, End, Standing, Absent, Holding, At, Outgoing, Incoming}
 use Rattle.rules.specs.Functions.{changed, In, All}
 use Rattle.rules.specs.Flowchart.{Guard, skip_guard, input_guard, condition_of, Branch, assignment, skip, input, output, test, par, alt, Program}
 

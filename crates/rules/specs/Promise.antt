@@ -1,5 +1,6 @@
 -- The promise: what every history of an engine is owed at the state that it leads to.
-use Rattle.rules.specs.Types.{◌≡◌, ◌⊎◌, ◌≢◌, List, [], ◌∷◌, ◌++◌, ℕ, ◌+◌, ◌<◌, length, ℤ, Some, None, Result, Ok, Err, Incoming, Outgoing, Answer, Halted, Moved, Slept, Passed, Ended, Finished, Waits, Stuck, Taken, Held, Refusal, NoRule}
+use Rattle.std.specs.Prelude.{◌≡◌, ◌⊎◌, ◌≢◌, List, [], ◌∷◌, ◌++◌, ℕ, ◌+◌, ◌<◌, length, ℤ, Some, None, Result, Ok, Err}
+use Rattle.rules.specs.Types.{Incoming, Outgoing, Answer, Halted, Moved, Slept, Passed, Ended, Finished, Waits, Stuck, Taken, Held, Refusal, NoRule}
 use Rattle.rules.specs.Functions.{In, Any}
 use Rattle.rules.specs.Flowchart.{Program}
 use Rattle.rules.specs.Primary.{State, Told, sent, Fires, LinkOut, Puts, Run, CanFire, CanLinkOut, HasEnded, Outside, initial}

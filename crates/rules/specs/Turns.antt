@@ -1,5 +1,6 @@
 -- The engine's tables, and a turn of a process: what is answered, the tables after it, and who becomes ready, in order.
-use Rattle.rules.specs.Types.{Bool, true, false, cond, ◌&&◌, ◌||◌, List, [], ◌∷◌, map, ℕ, eqb, ℤ, pos, Option, Some, None, option_is_some, Store, int_value, truth_value, Place, Line, End, Standing, Absent, Holding, At, Kind, Internal, Outgoing, Incoming, Answer, Halted, Moved, Slept, Passed, Ended}
+use Rattle.std.specs.Prelude.{Bool, true, false, cond, ◌&&◌, ◌||◌, List, [], ◌∷◌, map, ℕ, eqb, ℤ, pos, Option, Some, None}
+use Rattle.rules.specs.Types.{option_is_some, Store, int_value, truth_value, Place, Line, End, Standing, Absent, Holding, At, Kind, Internal, Outgoing, Incoming, Answer, Halted, Moved, Slept, Passed, Ended}
 use Rattle.rules.specs.Functions.{changed}
 use Rattle.rules.specs.Flowchart.{Guard, skip_guard, input_guard, condition_of, Branch, Node, assignment, skip, stop, input, output, test, par, alt, Program}
 use Rattle.rules.specs.Primary.{State, starts, leaves}

@@ -1,11 +1,6 @@
 -- The words that the other files take from the library, from the expressions and from the code.
-pub use Rattle.std.specs.Prelude.{Bool, true, false, cond, ◌&&◌, ◌||◌, ◌≡◌, ◌⊎◌, ◌≢◌, List, [], ◌∷◌, ◌++◌, map, ℕ, zero, suc, ◌+◌, ◌-◌, ◌<◌, ◌≤◌, eqb, ltb, ℤ, pos, length, get_or}
 pub use Rattle.std.proofs.Common.{inl, inr}
 pub use Rattle.std.specs.Option.{is_some as option_is_some}
-pub use Rattle.std.specs.declared.option.Option.{Option}
-pub use Rattle.std.specs.declared.option.Option.TheVariants.{Some, None}
-pub use Rattle.std.specs.declared.result.Result.{Result}
-pub use Rattle.std.specs.declared.result.Result.TheVariants.{Ok, Err}
 pub use Rattle.expressions.specs.Expression.{Expression}
 pub use Rattle.expressions.specs.Value.{Store}
 unfoldable pub use Rattle.expressions.specs.Value.{int_value, truth_value}

@@ -1,6 +1,6 @@
 -- What an accepted program is known for: its tree of processes, its places, its use of variables, channels and links.
-use Rattle.std.specs.Prelude.{◌≢◌}
-use Rattle.rules.specs.Types.{◌≡◌, ◌≢◌, List, [], ◌∷◌, ℕ, ◌<◌, ◌≤◌, Expression, Reads, Place, Line, End, Outgoing, Incoming}
+use Rattle.std.specs.Prelude.{◌≢◌, ◌≡◌, List, [], ◌∷◌, ℕ, ◌<◌, ◌≤◌}
+use Rattle.rules.specs.Types.{Expression, Reads, Place, Line, End, Outgoing, Incoming}
 use Rattle.rules.specs.Functions.{In, All}
 use Rattle.rules.specs.Flowchart.{Guard, skip_guard, input_guard, condition_of, Branch, Node, assignment, skip, stop, input, output, test, par, alt, Program}
 

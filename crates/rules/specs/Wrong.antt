@@ -1,5 +1,6 @@
 -- Engines that break the promise: each does as the engine does, but for one thing.
-use Rattle.rules.specs.Types.{true, ◌≡◌, List, [], ◌∷◌, ℕ, ℤ, Option, Some, None, Ok, Moved, Slept, Stuck}
+use Rattle.std.specs.Prelude.{true, ◌≡◌, List, [], ◌∷◌, ℕ, ℤ, Option, Some, None, Ok}
+use Rattle.rules.specs.Types.{Moved, Slept, Stuck}
 use Rattle.rules.specs.Answers.{message_of}
 use Rattle.rules.specs.Functions.{changed}
 use Rattle.rules.specs.Flowchart.{Guard, skip_guard, input_guard, Node, assignment, skip, stop, input, output, test, par, alt, Program}
