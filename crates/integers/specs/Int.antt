@@ -29,7 +29,7 @@ modulo z = int_wrap w32 z
 abbrev pub unless_zero : ℤ → Option ℤ → Option ℤ
 unless_zero b o = cond (eq_z b (pos 0)) None o
 
--- The value of `a op b`; `quot_z` is the quotient rounded toward zero and `rem_z` what it leaves of a.
+-- The value of `a op b`; `int_div` is the quotient rounded toward zero and `int_rem` what it leaves of a.
 abbrev pub applied : Operator → ℤ → ℤ → Option ℤ
 applied Add a b = inside (a +ℤ b)
 applied Subtract a b = inside (a -ℤ b)

@@ -79,19 +79,19 @@ verbless_none t (u ∷ us) h = ap (λ o. action_by (naming_of t) o us) h ∙ by 
 
 -- an expression, and what follows it: no process that begins with a name
 starts_condition : (ts rest : List Token) → Starts ts → NoVerb rest → sentence_of (ts ++ rest) ≡ condition_of (ts ++ rest)
-starts_condition ts rest s no-verb =
+starts_condition ts rest s no_verb =
     subst (λ l. sentence_of (l ++ rest) ≡ condition_of (l ++ rest)) (sym s.is)
     (opened s.head (s.tail ++ rest) opening.Other s.other ∙ ap (λ a. process_by a (s.head ∷ (s.tail ++ rest))) none)
   where
     none : action_of (s.head ∷ (s.tail ++ rest)) ≡ None
-    none = ⊎_elim (λ h. unnamed_none s.head (s.tail ++ rest) h) (λ e. verbless_none s.head (s.tail ++ rest) (subst (λ l. NoVerb (l ++ rest)) (sym e) no-verb)) s.plain
+    none = ⊎_elim (λ h. unnamed_none s.head (s.tail ++ rest) h) (λ e. verbless_none s.head (s.tail ++ rest) (subst (λ l. NoVerb (l ++ rest)) (sym e) no_verb)) s.plain
 
 expression_condition : {d : ℕ} {ts : List Token} {e : Phrase} → Makes expression d ts e → (rest : List Token) → NoVerb rest → sentence_of (ts ++ rest) ≡ condition_of (ts ++ rest)
-expression_condition (one m) rest no-verb = starts_condition _ rest (operand_starts m) no-verb
-expression_condition (prefixed {t = t} {ts = ts} {p = p} h m) rest no-verb =
+expression_condition (one m) rest no_verb = starts_condition _ rest (operand_starts m) no_verb
+expression_condition (prefixed {t = t} {ts = ts} {p = p} h m) rest no_verb =
     let other = prefix_other t p h in
     opened t (ts ++ rest) opening.Other other.0 ∙ ap (λ a. process_by a (t ∷ (ts ++ rest))) (unnamed_none t (ts ++ rest) other.1)
-expression_condition (two {o = o} ts t us e first h second) rest no-verb =
+expression_condition (two {o = o} ts t us e first h second) rest no_verb =
     let whole = ap (λ l. l ++ rest) e ∙ append_assoc ts (t ∷ us) rest in
     ap sentence_of whole ∙ starts_condition ts (t ∷ (us ++ rest)) (operand_starts first) (operator_no_verb t o h) ∙ ap condition_of (sym whole)
 
@@ -132,9 +132,9 @@ abbrev paired : Naming → Answer Naming → Answer (Naming × Naming)
 paired c a = onward a (λ x. Ok (c, x))
 
 input_read : (u v w : Token) (c x : Naming) → naming_of u ≡ Some c → is_sign mark.Input v ≡ true → naming_of w ≡ Some x → input_of (u ∷ (v ∷ (w ∷ []))) ≡ Ok (c, x)
-input_read u v w c x named in-sign named' =
+input_read u v w c x named in_sign named' =
     ap (λ o. onward (named_by o (v ∷ (w ∷ []))) (λ r. onward (past point.Input r.1) (λ us. paired r.0 (name_last us)))) named
-    ∙ ap (λ y. onward y (λ us. paired c (name_last us))) (cond-true _ _ _ in-sign)
+    ∙ ap (λ y. onward y (λ us. paired c (name_last us))) (cond-true _ _ _ in_sign)
     ∙ ap (λ o. paired c (onward (named_by o []) (λ r. ended r.0 r.1))) named'
 
 pub line_read : {ts : List Token} {s : Sentence} → MakesLine ts s → sentence_of ts ≡ Ok s
@@ -154,8 +154,8 @@ line_read (for_place {t = t} {u = u} {v = v} {c = c} {n = n} {z = z} {s = s} {i 
 line_read (for_lone {ts = ts} l h) = lone_read l ts h
 line_read (for_assign {t = t} {u = u} {ts = ts} {n = n} h becomes m) =
     acted t u ts n verb.Becomes h (by_sign verb_of mark.Becomes u (Some verb.Becomes) (λ s i. refl) becomes) ∙ ap (λ x. onward x (λ e. Ok (assign n e))) (whole_read m)
-line_read (for_input {t = t} {u = u} {v = v} {c = c} h in-sign k) =
-    acted t u (v ∷ []) c verb.Input h (by_sign verb_of mark.Input u (Some verb.Input) (λ s i. refl) in-sign)
+line_read (for_input {t = t} {u = u} {v = v} {c = c} h in_sign k) =
+    acted t u (v ∷ []) c verb.Input h (by_sign verb_of mark.Input u (Some verb.Input) (λ s i. refl) in_sign)
     ∙ ap (λ o. onward (onward (named_by o []) (λ r. ended r.0 r.1)) (λ x. Ok (input c x))) k
 line_read (for_output {t = t} {u = u} {ts = ts} {n = n} h out m) =
     acted t u ts n verb.Output h (by_sign verb_of mark.Output u (Some verb.Output) (λ s i. refl) out) ∙ ap (λ x. onward x (λ e. Ok (output n e))) (whole_read m)
@@ -163,9 +163,9 @@ line_read (for_while {t = t} {ts = ts} h m) =
     opened t ts opening.While (by_key opening_of key.While t opening.While (λ s i. refl) h) ∙ ap (λ x. onward x (λ e. Ok (while e))) (whole_read m)
 line_read (for_choice {ts = ts} {e = e} m) =
     ap sentence_of (sym (append-nil ts)) ∙ expression_condition m [] tt ∙ ap (λ x. onward x (λ r. guard_of r.0 r.1)) (complete m [] tt)
-line_read (for_guard {e = e} {c = c} {x = x} ts t u v w is m amp named in-sign named') =
+line_read (for_guard {e = e} {c = c} {x = x} ts t u v w is m amp named in_sign named') =
     ap sentence_of is ∙ amp_read ts (u ∷ (v ∷ (w ∷ []))) t e m amp
     ∙ ap (λ y. guard_by e y (u ∷ (v ∷ (w ∷ [])))) (cond-false _ _ _ (name_other u c named).1)
-    ∙ ap (λ y. onward y (λ p. Ok (guard e p.0 p.1))) (input_read u v w c x named in-sign named')
+    ∙ ap (λ y. onward y (λ p. Ok (guard e p.0 p.1))) (input_read u v w c x named in_sign named')
 line_read (for_skip_guard {e = e} ts t u is m amp skips) =
     ap sentence_of is ∙ amp_read ts (u ∷ []) t e m amp ∙ ap (λ y. guard_by e y (u ∷ [])) (cond-true _ _ _ skips)

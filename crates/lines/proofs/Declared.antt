@@ -28,19 +28,19 @@ channel_rows old new xs e = ap (map channel_name) e ∙ map-append channel_name 
 -- a declaration of variables that is accepted
 pub variables_declared : (t : Table) (ns : List Naming) (first count : ℕ) (vs : List (List ℕ)) → clash t ns ≡ None → counted first count ≡ Ok tt → first ≡ length t.variables → count ≡ length ns → vs ≡ t.variables ++ texts ns
     → variables_by t ns ≡ Ok (variables first count, record { variables = vs; channels = t.channels; links = t.links })
-variables_declared t ns first count vs fresh room is-first is-count are =
+variables_declared t ns first count vs fresh room is_first is_count are =
     ap (λ o. onward (unclashed o) (λ _. onward (counted (length t.variables) (length ns)) (λ _. Ok (variables (length t.variables) (length ns), with_variables t ns)))) fresh
-    ∙ ap (λ n. onward (counted n (length ns)) (λ _. Ok (variables n (length ns), with_variables t ns))) (sym is-first)
-    ∙ ap (λ n. onward (counted first n) (λ _. Ok (variables first n, with_variables t ns))) (sym is-count)
+    ∙ ap (λ n. onward (counted n (length ns)) (λ _. Ok (variables n (length ns), with_variables t ns))) (sym is_first)
+    ∙ ap (λ n. onward (counted first n) (λ _. Ok (variables first n, with_variables t ns))) (sym is_count)
     ∙ ap (λ r. onward r (λ _. Ok (variables first count, with_variables t ns))) room
     ∙ ap (λ l. Ok (variables first count, record { variables = l; channels = t.channels; links = t.links })) (sym are)
 
 -- a declaration of channels that is accepted
 pub channels_declared : (t : Table) (ns : List Naming) (first count : ℕ) (cs : List (List ℕ)) → clash t ns ≡ None → counted first count ≡ Ok tt → first ≡ length t.channels → count ≡ length ns → cs ≡ t.channels ++ texts ns
     → channels_by t ns ≡ Ok (channels first count, record { variables = t.variables; channels = cs; links = t.links })
-channels_declared t ns first count cs fresh room is-first is-count are =
+channels_declared t ns first count cs fresh room is_first is_count are =
     ap (λ o. onward (unclashed o) (λ _. onward (counted (length t.channels) (length ns)) (λ _. Ok (channels (length t.channels) (length ns), with_channels t ns)))) fresh
-    ∙ ap (λ n. onward (counted n (length ns)) (λ _. Ok (channels n (length ns), with_channels t ns))) (sym is-first)
-    ∙ ap (λ n. onward (counted first n) (λ _. Ok (channels first n, with_channels t ns))) (sym is-count)
+    ∙ ap (λ n. onward (counted n (length ns)) (λ _. Ok (channels n (length ns), with_channels t ns))) (sym is_first)
+    ∙ ap (λ n. onward (counted first n) (λ _. Ok (channels first n, with_channels t ns))) (sym is_count)
     ∙ ap (λ r. onward r (λ _. Ok (channels first count, with_channels t ns))) room
     ∙ ap (λ l. Ok (channels first count, record { variables = t.variables; channels = l; links = t.links })) (sym are)

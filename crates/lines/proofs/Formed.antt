@@ -130,8 +130,8 @@ InputMade ws (Err g) = g ≡ NoForm
 input_made : (ws : List Token) → InputMade ws (input_of ws)
 input_made ws =
     by_name (InputMade ws) refl ws _ (λ u us n e named.
-    by_past (InputMade ws) refl point.Input us _ (λ v vs f in-sign.
-    by_last (InputMade ws) refl vs _ (λ w x g named'. (u, v, w, e ∙ ap (λ l. u ∷ l) (f ∙ ap (λ l. v ∷ l) g), named, in-sign, named'))))
+    by_past (InputMade ws) refl point.Input us _ (λ v vs f in_sign.
+    by_last (InputMade ws) refl vs _ (λ w x g named'. (u, v, w, e ∙ ap (λ l. u ∷ l) (f ∙ ap (λ l. v ∷ l) g), named, in_sign, named'))))
 
 -- the same words, written out
 made_at : {ts us : List Token} {s : Sentence} → ts ≡ us → MakesLine us s → MakesLine ts s
@@ -166,7 +166,7 @@ module _ (ws xs : List Token) (e : Phrase) (m : Makes expression 8 xs e) where
   guarded_made t us f amp = by us refl
     where
       read : (r : Answer (Naming × Naming)) → InputMade us r → Made ws (onward r (λ p. Ok (guard e p.0 p.1)))
-      read (Ok p) (u, v, w, g, named, in-sign, named') = for_guard xs t u v w (f ∙ ap (λ l. xs ++ (t ∷ l)) g) m amp named in-sign named'
+      read (Ok p) (u, v, w, g, named, in_sign, named') = for_guard xs t u v w (f ∙ ap (λ l. xs ++ (t ∷ l)) g) m amp named in_sign named'
       read (Err g) k = k
 
       ends : (u : Token) (vs : List Token) → us ≡ u ∷ vs → is_key key.Skip u ≡ true → Made ws (ended (skip_guard e) vs)

@@ -39,14 +39,14 @@ lower_first h i j l a b o p none put_b put_a takes low next less small =
 
 module _ {F S : Type 0} (first : F → ℕ → ℕ) (second : S → ℕ → ℕ) where
   pub masked_first : (h i j l m : Pair F S) (a b : ℕ) (o p : Option ℕ) → Empty (first h.first) → Empty (second h.second) → Routes first second h b i → Routes first second i a j → FirstBeforeSecond first second j o l → FirstBeforeSecond first second l p m → a < 64 → b < 64 → bit h.mask a ≡ 1 → bit h.mask b ≡ 0 → (o ≡ Some a) × (p ≡ Some b)
-  masked_first h i j l m a b o p none nought put_b put_a take-a take-b small-a small_b set unset =
+  masked_first h i j l m a b o p none nought put_b put_a take_a take_b small_a small_b set unset =
       let other : a ≡ b → ⊥ = λ e. omega (arith, ap (bit h.mask) e) in
       let to_second = put_b.unset (grind (arith, nat_tests, none b, nought b)) unset in
       let second_b : Only (second i.second) b = only_put _ _ b small_b nought to_second.1 in
       let first_none : Empty (first i.first) = subst (λ (f : F). Empty (first f)) (sym to_second.0) none in
       let to_first = put_a.set (grind (arith, nat_tests, first_none a, second_b a)) (ap (λ (x : ℕ). bit x a) put_b.mask ∙ set) in
-      let first_a : Only (first j.first) a = only_put _ _ a small-a first_none to_first.0 in
-      let from_First = take-a.holding a (only_held _ a first_a) in
+      let first_a : Only (first j.first) a = only_put _ _ a small_a first_none to_first.0 in
+      let from_First = take_a.holding a (only_held _ a first_a) in
       let out_a = only_taken _ _ o a first_a from_First.0 in
       let still_b : Only (second l.second) b = subst (λ (s : S). Only (second s) b) (sym (from_First.1 ∙ to_first.1)) second_b in
-      (out_a.0, (only_taken _ _ p b still_b (take-b.spent out_a.1).1).0)
+      (out_a.0, (only_taken _ _ p b still_b (take_b.spent out_a.1).1).0)

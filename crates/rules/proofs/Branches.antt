@@ -1,7 +1,7 @@
 -- What PAR and join change of places, flags and the queue, at one process.
-use Rattle.std.proofs.Common.{sym, refl, ap, ◌∙◌, subst, Bool, List, [], ◌||◌, ◌∷◌, ◌≡◌, ◌≢◌, ◌⊎◌, eqb, false, map, true, ℕ}
+use Rattle.std.proofs.Common.{sym, refl, ap, ◌∙◌, subst, Bool, List, [], ◌||◌, ◌∷◌, ◌≡◌, ◌≢◌, ◌⊎◌, eqb, false, map, true, ℕ, inl, inr}
 use Rattle.std.proofs.lemmas.Bool.{and_from, and_parts, eq-eqb, eqb-true, or_cases, or_left, or_right}
-use Rattle.rules.specs.Types.{Absent, At, Standing, inl, inr}
+use Rattle.rules.specs.Types.{Absent, At, Standing}
 use Rattle.rules.specs.Flowchart.{Branch}
 use Rattle.rules.specs.Functions.{All, In, changed}
 use Rattle.rules.specs.Primary.{leaves, starts}

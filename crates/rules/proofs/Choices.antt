@@ -1,7 +1,7 @@
 -- What an ALT's choice says of its guards.
-use Rattle.std.proofs.Common.{sym, refl, ap, arith, Bool, List, None, Option, Some, [], ◌∷◌, ◌≡◌, ◌≢◌, ◌⊎◌, eqb, false, true, ℕ}
+use Rattle.std.proofs.Common.{sym, refl, ap, arith, Bool, List, None, Option, Some, [], ◌∷◌, ◌≡◌, ◌≢◌, ◌⊎◌, eqb, false, true, ℕ, inl, inr}
 use Rattle.std.proofs.lemmas.Bool.{and_parts, cond_both, eqb-false, or_parts}
-use Rattle.rules.specs.Types.{Expression, Place, Store, inl, inr, option_is_some, truth_value}
+use Rattle.rules.specs.Types.{Expression, Place, Store, option_is_some, truth_value}
 use Rattle.rules.specs.Flowchart.{Guard, condition_of, input_guard, skip_guard}
 use Rattle.rules.specs.Functions.{In}
 use Rattle.rules.specs.Primary.{Valued}

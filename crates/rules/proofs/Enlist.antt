@@ -1,7 +1,7 @@
 -- An ALT that no guard lets go on: its process becomes the chooser of every channel of a TRUE guard.
-use Rattle.std.proofs.Common.{sym, refl, ap, ◌∙◌, subst, arith, Bool, List, None, Option, Some, [], ◌∷◌, ◌≡◌, ◌≢◌, ◌⊎◌, eqb, false, true, ℕ}
+use Rattle.std.proofs.Common.{sym, refl, ap, ◌∙◌, subst, arith, Bool, List, None, Option, Some, [], ◌∷◌, ◌≡◌, ◌≢◌, ◌⊎◌, eqb, false, true, ℕ, inl, inr}
 use Rattle.std.proofs.lemmas.Bool.{cond_both, cond-true, eqb-true}
-use Rattle.rules.specs.Types.{At, Expression, Line, Place, Store, inl, inr, truth_value}
+use Rattle.rules.specs.Types.{At, Expression, Line, Place, Store, truth_value}
 use Rattle.rules.specs.Flowchart.{Guard, Node, Program, alt, assignment, input, input_guard, output, par, skip, skip_guard, stop, test}
 use Rattle.rules.specs.Functions.{In, changed}
 use Rattle.rules.specs.Turns.{Choice, Record, Tables, all_valued, by_skip, choose, chooser, empty, enlist, enlisted, guard_record, if_true, is_true, no_guard, outside, reader, unruled, writer}

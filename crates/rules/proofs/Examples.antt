@@ -1,6 +1,6 @@
 -- The example programs are well formed.
-use Rattle.std.proofs.Common.{sym, refl, ap, ◌∙◌, subst, arith, List, [], ◌<◌, ◌∷◌, ◌≡◌, ◌≢◌, ◌⊎◌, get_or, suc, zero, ℕ}
-use Rattle.rules.specs.Types.{Expression, Incoming, Line, Outgoing, Place, Reads, inl, inr}
+use Rattle.std.proofs.Common.{sym, refl, ap, ◌∙◌, subst, arith, List, [], ◌<◌, ◌∷◌, ◌≡◌, ◌≢◌, ◌⊎◌, get_or, suc, zero, ℕ, inl, inr}
+use Rattle.rules.specs.Types.{Expression, Incoming, Line, Outgoing, Place, Reads}
 use Rattle.rules.specs.Examples.{couple, echo, n_is, nested}
 use Rattle.rules.specs.Flowchart.{Branch, Program, assignment, par}
 use Rattle.rules.specs.Functions.{All, In}

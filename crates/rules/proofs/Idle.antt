@@ -1,7 +1,7 @@
 -- What an empty queue means: no rule can fire.
-use Rattle.std.proofs.Common.{sym, refl, ap, ◌∙◌, subst, arith, Bool, List, None, Option, Some, [], ◌∷◌, ◌≡◌, ◌≢◌, ◌⊎◌, false, pos, true, ℕ, ℤ}
+use Rattle.std.proofs.Common.{sym, refl, ap, ◌∙◌, subst, arith, Bool, List, None, Option, Some, [], ◌∷◌, ◌≡◌, ◌≢◌, ◌⊎◌, false, pos, true, ℕ, ℤ, inl, inr}
 use Rattle.std.proofs.lemmas.Bool.{and_from}
-use Rattle.rules.specs.Types.{At, End, Expression, Holding, Incoming, Line, Place, Standing, Store, inl, inr, int_value, option_is_some, truth_value}
+use Rattle.rules.specs.Types.{At, End, Expression, Holding, Incoming, Line, Place, Standing, Store, int_value, option_is_some, truth_value}
 use Rattle.rules.specs.Calls.{Counts, SleepsOnLink, at_link, choosing, offer_to, reading, take_from, writing}
 use Rattle.rules.specs.Flowchart.{Guard, Node, Program, alt, assignment, condition_of, input, input_guard, output, par, skip, skip_guard, test}
 use Rattle.rules.specs.Functions.{In, changed}

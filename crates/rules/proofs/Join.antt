@@ -1,6 +1,6 @@
 -- The join: when the last branch ends, the holder goes on and the branches are gone.
-use Rattle.std.proofs.Common.{sym, refl, ap, ◌∙◌, subst, arith, Bool, List, ◌<◌, ◌≡◌, ◌≢◌, ◌⊎◌, false, true, ℕ}
-use Rattle.rules.specs.Types.{Absent, At, End, Holding, Line, Place, Standing, inl, inr}
+use Rattle.std.proofs.Common.{sym, refl, ap, ◌∙◌, subst, arith, Bool, List, ◌<◌, ◌≡◌, ◌≢◌, ◌⊎◌, false, true, ℕ, inl, inr}
+use Rattle.rules.specs.Types.{Absent, At, End, Holding, Line, Place, Standing}
 use Rattle.rules.specs.Flowchart.{Branch, Program, par}
 use Rattle.rules.specs.Functions.{In, changed}
 use Rattle.rules.specs.Primary.{leaves}
@@ -13,7 +13,7 @@ use Rattle.rules.proofs.Par.{record_place, with_places}
 use Rattle.rules.proofs.Sound.{Present, Sound}
 
 module _ (pg : Program) (wf : WellFormed pg) (t : Tables) (r : ℕ → Bool) (so : Sound pg t r)
-    (p : ℕ) (bs : List Branch) (to : Place) (pos : 0 < p) (ready : r p ≡ true) (stands : t.place p ≡ At End) (is-par : pg.node (pg.home p) ≡ par bs to) (rest : others_ended p t.ended bs ≡ true) where
+    (p : ℕ) (bs : List Branch) (to : Place) (pos : 0 < p) (ready : r p ≡ true) (stands : t.place p ≡ At End) (is_par : pg.node (pg.home p) ≡ par bs to) (rest : others_ended p t.ended bs ≡ true) where
   present_p : Present (t.place p)
   present_p = subst Present (sym stands) tt
 
@@ -24,10 +24,10 @@ module _ (pg : Program) (wf : WellFormed pg) (t : Tables) (r : ℕ → Bool) (so
   own = (so.holder (pg.parent p) (pg.home p) holds).0
 
   pub p_in : (b : Branch) × In b bs × (p ≡ b.process)
-  p_in = wf.listed p pos (so.small p present_p) bs to is-par
+  p_in = wf.listed p pos (so.small p present_p) bs to is_par
 
   of : (b : Branch) → In b bs → BranchOf pg (pg.home p) b
-  of b i = all_in (BranchOf pg (pg.home p)) bs b (wf.branches (pg.home p) bs to is-par) i
+  of b i = all_in (BranchOf pg (pg.home p)) bs b (wf.branches (pg.home p) bs to is_par) i
 
   pub done : (b : Branch) → In b bs → t.place b.process ≡ At End
   done b i = which (others_are p t.ended bs rest b i)
@@ -101,7 +101,7 @@ module _ (pg : Program) (wf : WellFormed pg) (t : Tables) (r : ℕ → Bool) (so
       let ne' : pg.parent q ≢ pg.parent p = λ i.
       let w = holds in
       let hm : pg.home q ≡ pg.home p = cc in
-      let l = wf.listed q qpos (so.small q k) bs to (ap pg.node hm ∙ is-par) in
+      let l = wf.listed q qpos (so.small q k) bs to (ap pg.node hm ∙ is_par) in
       out l.0 l.1 l.2 in
       stays (pg.parent q) (not_done (pg.parent q) (Holding (pg.home q)) u (λ i. let z : ◌≡◌ {A = ℕ} 0 1 = cc in omega arith)) ne' ∙ u) h
 
@@ -113,7 +113,7 @@ module _ (pg : Program) (wf : WellFormed pg) (t : Tables) (r : ℕ → Bool) (so
       new_case q (λ a. a ≡ At (Line m) → pg.owner m ≡ q)
       (λ e k.
       let j : to ≡ Line m = cc in
-      let lead : Leads pg (pg.owner (pg.home p)) (par bs to) = subst (Leads pg (pg.owner (pg.home p))) is-par (wf.leads (pg.home p)) in
+      let lead : Leads pg (pg.owner (pg.home p)) (par bs to) = subst (Leads pg (pg.owner (pg.home p))) is_par (wf.leads (pg.home p)) in
       let o : pg.owner m ≡ pg.owner (pg.home p) = subst (Inside pg (pg.owner (pg.home p))) j lead in
       o ∙ (own ∙ sym e))
       (λ b i e ne k. let z : ◌≡◌ {A = ℕ} 0 1 = cc in absurd (omega arith)) (λ out ne k. so.owned q m k) h

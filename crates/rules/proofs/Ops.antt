@@ -20,9 +20,9 @@ all_map P Q (a ∷ l) f h = (f a h.0, all_map P Q l f h.1)
 
 module _ (pg : Program) (wf : WellFormed pg) (t : Tables) (r : ℕ → Bool) (so : Sound pg t r) where
   -- a ready process writes a variable that its line writes
-  module _ (p m x : ℕ) (v : ℤ) (ready : r p ≡ true) (stands : t.place p ≡ At (Line m)) (writes-it : NodeWrites (pg.node m) x) (free : (c : ℕ) → t.channel c ≢ chooser p) where
+  module _ (p m x : ℕ) (v : ℤ) (ready : r p ≡ true) (stands : t.place p ≡ At (Line m)) (writes_it : NodeWrites (pg.node m) x) (free : (c : ℕ) → t.channel c ≢ chooser p) where
     unread : (q n : ℕ) → q ≢ p → t.place q ≡ At (Line n) → NodeReads (pg.node n) x → ⊥
-    unread q n ne e h = (active_apart pg wf t r so p q m n (λ a. ne (sym a)) stands e).none_reads x writes-it h
+    unread q n ne e h = (active_apart pg wf t r so p q m n (λ a. ne (sym a)) stands e).none_reads x writes_it h
 
     record_write : (c : ℕ) (k : Record) → t.channel c ≡ k → RecordOk pg t.place t.variables r c k → RecordOk pg t.place (changed t.variables x v) r c k
     record_write c empty e h = tt

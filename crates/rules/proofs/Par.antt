@@ -1,6 +1,6 @@
 -- PAR, and the end of a branch that is not the last.
-use Rattle.std.proofs.Common.{sym, refl, ap, ◌∙◌, subst, arith, Bool, List, ◌<◌, ◌∷◌, ◌≡◌, ◌≢◌, ◌⊎◌, false, map, true, ℕ}
-use Rattle.rules.specs.Types.{At, End, Holding, Line, Place, Standing, Store, inl, inr}
+use Rattle.std.proofs.Common.{sym, refl, ap, ◌∙◌, subst, arith, Bool, List, ◌<◌, ◌∷◌, ◌≡◌, ◌≢◌, ◌⊎◌, false, map, true, ℕ, inl, inr}
+use Rattle.rules.specs.Types.{At, End, Holding, Line, Place, Standing, Store}
 use Rattle.rules.specs.Flowchart.{Branch, Program, par}
 use Rattle.rules.specs.Functions.{All, In, changed}
 use Rattle.rules.specs.Primary.{starts}
@@ -67,7 +67,7 @@ module _ (pg : Program) (wf : WellFormed pg) (t : Tables) (r : ℕ → Bool) (so
     }
 
   -- p starts the branches of its PAR
-  module _ (p n : ℕ) (b₀ : Branch) (bs₀ : List Branch) (to : Place) (ready : r p ≡ true) (stands : t.place p ≡ At (Line n)) (is-par : pg.node n ≡ par (b₀ ∷ bs₀) to) where
+  module _ (p n : ℕ) (b₀ : Branch) (bs₀ : List Branch) (to : Place) (ready : r p ≡ true) (stands : t.place p ≡ At (Line n)) (is_par : pg.node n ≡ par (b₀ ∷ bs₀) to) where
     new : ℕ → Standing
     new = starts (b₀ ∷ bs₀) (changed t.place p (Holding n))
 
@@ -75,7 +75,7 @@ module _ (pg : Program) (wf : WellFormed pg) (t : Tables) (r : ℕ → Bool) (so
     r' = marks (changed r p false) (map (λ b. b.process) (b₀ ∷ bs₀))
 
     of : (b : Branch) → In b (b₀ ∷ bs₀) → BranchOf pg n b
-    of b i = all_in (BranchOf pg n) (b₀ ∷ bs₀) b (wf.branches n (b₀ ∷ bs₀) to is-par) i
+    of b i = all_in (BranchOf pg n) (b₀ ∷ bs₀) b (wf.branches n (b₀ ∷ bs₀) to is_par) i
 
     own : pg.owner n ≡ p
     own = so.owned p n stands
@@ -140,7 +140,7 @@ module _ (pg : Program) (wf : WellFormed pg) (t : Tables) (r : ℕ → Bool) (so
     holder_new q m e = pick_one (held_case q m e)
       where
         pick_one : ((q ≡ p) × (m ≡ n)) ⊎ ((q ≢ p) × (t.place q ≡ Holding m)) → (pg.owner m ≡ q) × ((b : Branch) × (cs : List Branch) × (s : Place) × (pg.node m ≡ par (b ∷ cs) s))
-        pick_one (inl h) = (ap pg.owner h.1 ∙ (own ∙ sym h.0), (b₀, bs₀, to, ap pg.node h.1 ∙ is-par))
+        pick_one (inl h) = (ap pg.owner h.1 ∙ (own ∙ sym h.0), (b₀, bs₀, to, ap pg.node h.1 ∙ is_par))
         pick_one (inr h) = so.holder q m h.1
 
     unjoined_new : (q m : ℕ) (cs : List Branch) (s : Place) → new q ≡ Holding m → pg.node m ≡ par cs s → All (λ b. t.ended b.process ≡ true) cs → ⊥

@@ -1,7 +1,7 @@
 -- A call has one answer and leaves one state, but for the number that a queue hands over.
-use Rattle.std.proofs.Common.{sym, refl, ◌∙◌, subst, arith, Err, Ok, Result, Some, ◌≡◌, ◌⊎◌, ℕ, ℤ}
+use Rattle.std.proofs.Common.{sym, refl, ◌∙◌, subst, arith, Err, Ok, Result, Some, ◌≡◌, ◌⊎◌, ℕ, ℤ, inl, inr}
 use Rattle.std.proofs.lemmas.Bool.{cases_eq}
-use Rattle.rules.specs.Types.{Answer, Incoming, NoLink, Outgoing, Refusal, inl, inr}
+use Rattle.rules.specs.Types.{Answer, Incoming, NoLink, Outgoing, Refusal}
 use Rattle.rules.specs.Calls.{Gives, IdleAnswer, Machine, Offer, Outcome, StepBy, Take, after_turn, at_link, awaits, finishes, idles, no_link, no_program, offer_to, sticks, take_from, turns}
 use Rattle.rules.specs.Flowchart.{Program}
 use Rattle.rules.specs.Promise.{Pinned, TwoHeld}

@@ -1,7 +1,7 @@
 -- Steps that fire no rule cannot go on for long: each takes one process out of the queue that no such step puts back.
-use Rattle.std.proofs.Common.{not, sym, refl, ap, ◌∙◌, subst, arith, Bool, List, None, Ok, Option, Result, Some, [], ◌&&◌, ◌+◌, ◌<◌, ◌∷◌, ◌≡◌, ◌≢◌, ◌≤◌, ◌⊎◌, cond, eqb, false, length, suc, true, zero, ℕ, ℤ}
+use Rattle.std.proofs.Common.{not, sym, refl, ap, ◌∙◌, subst, arith, Bool, List, None, Ok, Option, Result, Some, [], ◌&&◌, ◌+◌, ◌<◌, ◌∷◌, ◌≡◌, ◌≢◌, ◌≤◌, ◌⊎◌, cond, eqb, false, length, suc, true, zero, ℕ, ℤ, inl, inr}
 use Rattle.std.proofs.lemmas.Bool.{and_from, and_parts, cases_Bool, cases_eq, cond_both, cond-true, eq-eqb, not_from_false, not-true}
-use Rattle.rules.specs.Types.{Absent, Answer, At, End, Ended, Expression, Finished, Halted, Held, Holding, Incoming, Internal, Kind, Line, Moved, Outgoing, Passed, Place, Refusal, Slept, Standing, Stuck, Taken, Waits, inl, inr, int_value, truth_value}
+use Rattle.rules.specs.Types.{Absent, Answer, At, End, Ended, Expression, Finished, Halted, Held, Holding, Incoming, Internal, Kind, Line, Moved, Outgoing, Passed, Place, Refusal, Slept, Standing, Stuck, Taken, Waits, int_value, truth_value}
 use Rattle.rules.specs.Calls.{Gives, IdleAnswer, Machine, StepBy, after_turn, awaits, finishes, idles, no_program, sticks, turns}
 use Rattle.rules.specs.Flowchart.{Branch, Guard, Node, Program, alt, assignment, input, input_guard, output, par, skip, skip_guard, stop, test}
 use Rattle.rules.specs.Functions.{Any, In, changed}

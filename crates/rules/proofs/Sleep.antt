@@ -1,7 +1,7 @@
 -- Changes of records and of the queue that leave every process where it stands.
-use Rattle.std.proofs.Common.{sym, refl, ap, ◌∙◌, subst, arith, Bool, List, [], ◌∷◌, ◌≡◌, ◌≢◌, eqb, false, true, ℕ}
+use Rattle.std.proofs.Common.{sym, refl, ap, ◌∙◌, subst, arith, Bool, List, [], ◌∷◌, ◌≡◌, ◌≢◌, eqb, false, true, ℕ, inl, inr}
 use Rattle.std.proofs.lemmas.Bool.{cond_both, cond-false, eqb-false, ne_eqb}
-use Rattle.rules.specs.Types.{At, End, Line, Place, Standing, Store, inl, inr}
+use Rattle.rules.specs.Types.{At, End, Line, Place, Standing, Store}
 use Rattle.rules.specs.Flowchart.{Guard, Node, Program, alt, assignment, input, input_guard, output, par, skip, skip_guard, stop, test}
 use Rattle.rules.specs.Functions.{changed}
 use Rattle.rules.specs.Turns.{Record, Tables, chooser, empty, freed, mark, outside, reader, release, writer}

@@ -1,6 +1,6 @@
 -- Every history of the engine is kept the promise.
-use Rattle.std.proofs.Common.{sym, refl, ap, ◌∙◌, subst, arith, Bool, List, None, Ok, Option, Result, Some, [], ◌++◌, ◌∷◌, ◌≡◌, ◌≤◌, ◌⊎◌, false, true, ℕ, ℤ}
-use Rattle.rules.specs.Types.{Answer, Fault, Refusal, Stuck, Waits, inl, inr}
+use Rattle.std.proofs.Common.{sym, refl, ap, ◌∙◌, subst, arith, Bool, List, None, Ok, Option, Result, Some, [], ◌++◌, ◌∷◌, ◌≡◌, ◌≤◌, ◌⊎◌, false, true, ℕ, ℤ, inl, inr}
+use Rattle.rules.specs.Types.{Answer, Fault, Refusal, Stuck, Waits}
 use Rattle.rules.specs.Calls.{IdleAnswer, Machine, Offer, StepBy, Take, after_turn, at_link, awaits, idles, no_link, no_program, sticks, turns}
 use Rattle.rules.specs.Flowchart.{Program}
 use Rattle.rules.specs.History.{Call, Reached, also, also_told, engine, fresh, last_accepted, load_refused, loaded, new, offered, stepped, told, took, with_call, with_calls}

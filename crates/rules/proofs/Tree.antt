@@ -1,7 +1,7 @@
 -- Two processes that stand at lines stand in two branches of one PAR.
-use Rattle.std.proofs.Common.{sym, refl, ap, subst, arith, Bool, ◌<◌, ◌≡◌, ◌≢◌, ◌≤◌, ◌⊎◌, suc, zero, ℕ}
+use Rattle.std.proofs.Common.{sym, refl, ap, subst, arith, Bool, ◌<◌, ◌≡◌, ◌≢◌, ◌≤◌, ◌⊎◌, suc, zero, ℕ, inl, inr}
 use Rattle.std.proofs.lemmas.Bool.{cases_eq}
-use Rattle.rules.specs.Types.{At, Holding, Line, Place, inl, inr}
+use Rattle.rules.specs.Types.{At, Holding, Line, Place}
 use Rattle.rules.specs.Flowchart.{Node, Program}
 use Rattle.rules.specs.Turns.{Tables}
 use Rattle.rules.specs.WellFormed.{Apart, Under, WellFormed, below, itself}

@@ -1,8 +1,8 @@
 -- A turn of a ready process fires a rule or none, meets no record without a rule, and keeps the tables sound.
-use Rattle.std.proofs.Common.{sym, refl, ap, ◌∙◌, subst, arith, Bool, List, None, Option, Some, [], ◌<◌, ◌∷◌, ◌≡◌, ◌≢◌, ◌⊎◌, cond, eqb, false, map, true, ℕ, ℤ}
+use Rattle.std.proofs.Common.{sym, refl, ap, ◌∙◌, subst, arith, Bool, List, None, Option, Some, [], ◌<◌, ◌∷◌, ◌≡◌, ◌≢◌, ◌⊎◌, cond, eqb, false, map, true, ℕ, ℤ, inl, inr}
 use mathlib.Core.Path.{fun_ext}
 use Rattle.std.proofs.lemmas.Bool.{cases_eq, cond_both, eqb-false, eqb-true}
-use Rattle.rules.specs.Types.{Absent, Answer, At, End, Ended, Expression, Finished, Halted, Held, Holding, Incoming, Internal, Kind, Line, Moved, Outgoing, Passed, Place, Slept, Standing, Store, Stuck, Taken, Waits, inl, inr, int_value, truth_value}
+use Rattle.rules.specs.Types.{Absent, Answer, At, End, Ended, Expression, Finished, Halted, Held, Holding, Incoming, Internal, Kind, Line, Moved, Outgoing, Passed, Place, Slept, Standing, Store, Stuck, Taken, Waits, int_value, truth_value}
 use Rattle.rules.specs.Flowchart.{Branch, Guard, Node, Program, alt, assignment, input, input_guard, output, par, skip, skip_guard, stop, test}
 use Rattle.rules.specs.Functions.{All, In, changed}
 use Rattle.rules.specs.Primary.{Fires, Receives, Sends, State, Told, assigns, by_guard, by_input, communicates, joins, leaves, links_in, passes_par, sent, skips, starts_par, takes_skip, tests}
@@ -124,7 +124,7 @@ module _ (pg : Program) (wf : WellFormed pg) (t : Tables) (r : ℕ → Bool) (so
     test_good e a b nd (Some false) i = simple b (lead p n (test e a b) stands nd).1 (λ gs h. let z : ◌≡◌ {A = ℕ} 0 1 = cc in omega arith) (tests p n e a b false stands nd i)
 
     -- a value goes from q, which sleeps as writer, to p
-    module _ (c x q : ℕ) (to : Place) (v : ℤ) (is-writer : t.channel c ≡ writer q v) where
+    module _ (c x q : ℕ) (to : Place) (v : ℤ) (is_writer : t.channel c ≡ writer q v) where
       sends : WritesAt pg t.place t.variables q c v → Sends pg (view t) q c v (follower pg t q)
       sends a = record { line_number = a.line_number; expression = a.expression; stands = a.stands; is_output = a.is_output ∙ ap (output c a.expression) (sym (follower_is q a.line_number (output c a.expression a.to) a.stands a.is_output)); has_value = a.has_value }
 

@@ -1,6 +1,6 @@
 -- What a line uses, computed from what stands there, and as the rules say it.
-use Rattle.std.proofs.Common.{sym, refl, ap, ◌∙◌, subst, arith, List, [], ◌∷◌, ◌≡◌, ◌⊎◌, ℕ}
-use Rattle.rules.specs.Types.{Expression, Place, Reads, inl, inr}
+use Rattle.std.proofs.Common.{sym, refl, ap, ◌∙◌, subst, arith, List, [], ◌∷◌, ◌≡◌, ◌⊎◌, ℕ, inl, inr}
+use Rattle.rules.specs.Types.{Expression, Place, Reads}
 use Rattle.rules.specs.Flowchart.{Guard, Node, alt, assignment, condition_of, input, input_guard, output, par, skip, skip_guard, stop, test}
 use Rattle.rules.specs.Functions.{In}
 use Rattle.rules.specs.WellFormed.{LineInputs, LineOutputs, LineReads, LineWrites, at_guard, at_input, at_output, by_assignment, by_receiving, in_assignment, in_condition, in_output, in_test}

@@ -1,7 +1,7 @@
 -- A value stays where none of the variables that it is made of changes.
-use Rattle.std.proofs.Common.{sym, refl, ap, ◌∙◌, subst, ap₂, List, [], ◌&&◌, ◌∷◌, ◌≡◌, ℕ, ℤ}
+use Rattle.std.proofs.Common.{sym, refl, ap, ◌∙◌, subst, ap₂, List, [], ◌&&◌, ◌∷◌, ◌≡◌, ℕ, ℤ, inl, inr}
 use Rattle.expressions.proofs.Same.{int_same, truth_same}
-use Rattle.rules.specs.Types.{Expression, Place, Reads, Store, inl, inr, int_value, option_is_some, truth_value}
+use Rattle.rules.specs.Types.{Expression, Place, Reads, Store, int_value, option_is_some, truth_value}
 use Rattle.rules.specs.Flowchart.{Guard, Node, alt, assignment, condition_of, input, input_guard, output, par, skip, skip_guard, stop, test}
 use Rattle.rules.specs.Functions.{In, changed}
 use Rattle.rules.specs.Turns.{Record, all_valued, chooser, reader, writer}

@@ -1,5 +1,4 @@
 -- The words that the other files take from the library, from the expressions and from the code.
-pub use Rattle.std.proofs.Common.{inl, inr}
 pub use Rattle.std.specs.Option.{is_some as option_is_some}
 pub use Rattle.expressions.specs.Expression.{Expression}
 pub use Rattle.expressions.specs.Value.{Store}

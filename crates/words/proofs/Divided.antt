@@ -39,9 +39,9 @@ first_line (b ∷ s) some =
     (λ e. let cut = cut_false b s e in rw (cut.0, cut.1))
 
 -- what the code has: the bytes before k, the bytes r from k on, and those after the end of the line
-module _ (s front rest : List ℕ) (k : ℕ) (some : 0 < length s) (place : k ≡ prefix_len in_line s) (is_front : front ≡ take k s) (is-rest : rest ≡ drop k s) where
+module _ (s front rest : List ℕ) (k : ℕ) (some : 0 < length s) (place : k ≡ prefix_len in_line s) (is_front : front ≡ take k s) (is_rest : rest ≡ drop k s) where
   cut : divided s ≡ front ∷ divided (drop 1 rest)
-  cut = first_line s some ∙ ap (λ n. take n s ∷ divided (drop 1 (drop n s))) (sym place) ∙ rw (is_front, is-rest)
+  cut = first_line s some ∙ ap (λ n. take n s ∷ divided (drop 1 (drop n s))) (sym place) ∙ rw (is_front, is_rest)
 
   pub last_line : length rest < 1 → divided s ≡ front ∷ divided rest
   last_line none = let nil = nil_from_length rest (omega arith) in cut ∙ ap (λ r. front ∷ divided (drop 1 r)) nil ∙ ap (λ r. front ∷ divided r) (sym nil)
@@ -50,7 +50,7 @@ module _ (s front rest : List ℕ) (k : ℕ) (some : 0 < length s) (place : k �
   more_lines = cut ∙ ap (λ r. front ∷ divided r) (sym (take_rest rest 1))
 
   pub shorter : 0 < length rest → length (take (length rest - 1) (drop 1 rest)) < length s
-  shorter more = omega (arith, ap length (take_rest rest 1), length-drop 1 rest, ap length is-rest, length-drop k s)
+  shorter more = omega (arith, ap length (take_rest rest 1), length-drop 1 rest, ap length is_rest, length-drop k s)
 
 -- what the loop keeps: the first n lines of s are ls, and what is left is rest
 pub record Sofar (s : List ℕ) (ls : List (ℕ × List ℕ)) (n : ℕ) (rest : List ℕ) : Type 0 where

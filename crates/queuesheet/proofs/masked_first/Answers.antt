@@ -10,7 +10,7 @@ use Rattle.queuesheet.proofs.Served.{masked_first}
 use Rattle.queuesheet.proofs.masked_first.Goals as goal
 
 pub returns : goal.returns
-returns c small-a small_b set unset =
+returns c small_a small_b set unset =
     let a = c.args.a in
     let b = c.args.b in
     let made = c.new-pair.ensures in
@@ -18,7 +18,7 @@ returns c small-a small_b set unset =
     let nought = subst (λ (q : Ring). Empty (times (line q))) (sym made.1) c.new-2.ensures.empty in
     let set_a = ap (λ (m : ℕ). bit m a) made.2 ∙ set in
     let unset_b = ap (λ (m : ℕ). bit m b) made.2 ∙ unset in
-    let out = masked_first marked (λ ring. times (line ring)) _ _ _ _ _ a b _ _ none nought c.put.ensures.route c.put-2.ensures.route c.take-first.ensures.order c.take.ensures.order small-a small_b set_a unset_b in
+    let out = masked_first marked (λ ring. times (line ring)) _ _ _ _ _ a b _ _ none nought c.put.ensures.route c.put-2.ensures.route c.take-first.ensures.order c.take.ensures.order small_a small_b set_a unset_b in
     let first = out.0 in
     let next = out.1 in
     cc
