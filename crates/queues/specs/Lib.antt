@@ -1,4 +1,3 @@
-pub mod Bits
 pub mod Lists
 pub mod Lowest
 pub mod Meaning

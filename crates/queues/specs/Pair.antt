@@ -1,6 +1,6 @@
 -- The pair: two queues, and a mask that says which of them a number goes to. Assumes nothing.
 use Rattle.std.specs.Prelude.{◌≡◌, ℕ, ◌+◌, ◌<◌, true, false, Option}
-use Rattle.queues.specs.Bits.{bit}
+use Rattle.std.specs.Int.{bit_at}
 use Rattle.queues.specs.Meaning.{Empty, Puts, Takes, welcome}
 use Rattle.queues.specs.declared.joined.Pair.{Pair}
 
@@ -17,9 +17,9 @@ module _ {F S : Type 0} (first : F → ℕ → ℕ) (second : S → ℕ → ℕ)
     -- a number that is not welcome touches neither member
     pub neither : welcome (joint before) n ≡ false → (after.first ≡ before.first) × (after.second ≡ before.second)
     -- a welcome number whose bit is set is put into the first member, and the second is untouched
-    pub set : welcome (joint before) n ≡ true → bit before.mask n ≡ 1 → Puts (first before.first) n (first after.first) × (after.second ≡ before.second)
+    pub set : welcome (joint before) n ≡ true → bit_at before.mask n ≡ 1 → Puts (first before.first) n (first after.first) × (after.second ≡ before.second)
     -- a welcome number whose bit is not set is put into the second member, and the first is untouched
-    pub unset : welcome (joint before) n ≡ true → bit before.mask n ≡ 0 → (after.first ≡ before.first) × Puts (second before.second) n (second after.second)
+    pub unset : welcome (joint before) n ≡ true → bit_at before.mask n ≡ 0 → (after.first ≡ before.first) × Puts (second before.second) n (second after.second)
 
   -- which member a take concerns, and what it leaves
   pub record FirstBeforeSecond (before : Pair F S) (given : Option ℕ) (after : Pair F S) : Type 0 where

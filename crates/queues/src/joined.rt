@@ -2,6 +2,7 @@ ghost use Rattle.std.specs.Prelude.{◌≡◌};
 ghost use Rattle.queues.specs.Meaning.{Empty, Puts, Takes};
 ghost use Rattle.queues.specs.Pair.{FirstBeforeSecond, Routes, joint};
 
+use crate::bits::is_set;
 use crate::queue::ReadyQueue;
 
 // Two queues joined: numbers whose bit in the mask is set go to the first, which is emptied before the second.
@@ -33,7 +34,7 @@ impl<F: ReadyQueue, S: ReadyQueue> ReadyQueue for Pair<F, S> {
         ensures route { Routes F.ReadyQueue.held S.ReadyQueue.held self.old n self.new }
     {
         if n < 64 && !self.holds(n) {
-            if (self.mask >> n) & 1 == 1 {
+            if is_set(self.mask, n) {
                 self.first.put(n);
             } else {
                 self.second.put(n);

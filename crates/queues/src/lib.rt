@@ -1,6 +1,7 @@
 // Ready queues: which of the numbers 0 to 63 are to be served, and which comes next.
 #![tactic(auto)]
 
+mod bits;
 mod draining;
 mod joined;
 mod lowest;

@@ -1,6 +1,7 @@
 ghost use Rattle.queues.specs.Lowest.{GivesLowest, marked};
 ghost use Rattle.queues.specs.Meaning.{Empty, Takes};
 
+use crate::bits::is_set;
 use crate::queue::ReadyQueue;
 
 // A queue that hands over the lowest number it holds: a word with a bit for each number.
@@ -45,7 +46,7 @@ impl ReadyQueue for LowestFirst {
 
     fn holds(&self, n: u8) -> bool {
         let word = self.word;
-        n < 64 && (word >> n) & 1 == 1
+        n < 64 && is_set(word, n)
     }
 
     fn count(&self) -> u8 {

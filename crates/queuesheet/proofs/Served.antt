@@ -2,7 +2,7 @@
 use Rattle.std.proofs.Common.{◌≡◌, ℕ, ◌<◌, cond, eqb, Some, None, Option, sym, ap, ◌∙◌, subst, ⊎_elim, arith}
 use Rattle.std.proofs.lemmas.Bool.{cases_order}
 use Rattle.std.proofs.lemmas.Bool.Decides.{nat_tests}
-use Rattle.queues.specs.Bits.{bit}
+use Rattle.std.specs.Int.{bit_at}
 use Rattle.queues.specs.Lowest.{GivesLowest}
 use Rattle.queues.specs.Meaning.{Empty, Puts, Takes}
 use Rattle.queues.specs.Pair.{FirstBeforeSecond, Routes}
@@ -38,13 +38,13 @@ lower_first h i j l a b o p none put_b put_a takes low next less small =
     (first, lowest_given l p b next (only_held l b left) (λ k lt. grind (arith, nat_tests, left k)))
 
 module _ {F S : Type 0} (first : F → ℕ → ℕ) (second : S → ℕ → ℕ) where
-  pub masked_first : (h i j l m : Pair F S) (a b : ℕ) (o p : Option ℕ) → Empty (first h.first) → Empty (second h.second) → Routes first second h b i → Routes first second i a j → FirstBeforeSecond first second j o l → FirstBeforeSecond first second l p m → a < 64 → b < 64 → bit h.mask a ≡ 1 → bit h.mask b ≡ 0 → (o ≡ Some a) × (p ≡ Some b)
+  pub masked_first : (h i j l m : Pair F S) (a b : ℕ) (o p : Option ℕ) → Empty (first h.first) → Empty (second h.second) → Routes first second h b i → Routes first second i a j → FirstBeforeSecond first second j o l → FirstBeforeSecond first second l p m → a < 64 → b < 64 → bit_at h.mask a ≡ 1 → bit_at h.mask b ≡ 0 → (o ≡ Some a) × (p ≡ Some b)
   masked_first h i j l m a b o p none nought put_b put_a take_a take_b small_a small_b set unset =
-      let other : a ≡ b → ⊥ = λ e. omega (arith, ap (bit h.mask) e) in
+      let other : a ≡ b → ⊥ = λ e. omega (arith, ap (bit_at h.mask) e) in
       let to_second = put_b.unset (grind (arith, nat_tests, none b, nought b)) unset in
       let second_b : Only (second i.second) b = only_put _ _ b small_b nought to_second.1 in
       let first_none : Empty (first i.first) = subst (λ (f : F). Empty (first f)) (sym to_second.0) none in
-      let to_first = put_a.set (grind (arith, nat_tests, first_none a, second_b a)) (ap (λ (x : ℕ). bit x a) put_b.mask ∙ set) in
+      let to_first = put_a.set (grind (arith, nat_tests, first_none a, second_b a)) (ap (λ (x : ℕ). bit_at x a) put_b.mask ∙ set) in
       let first_a : Only (first j.first) a = only_put _ _ a small_a first_none to_first.0 in
       let from_First = take_a.holding a (only_held _ a first_a) in
       let out_a = only_taken _ _ o a first_a from_First.0 in

@@ -2,7 +2,7 @@
 #![tactic(auto)]
 
 ghost use Rattle.std.specs.Prelude.{◌≡◌, ◌<◌, [], ◌∷◌, Some, OnOk, ◌≢◌};
-ghost use Rattle.queues.specs.Bits.{bit};
+ghost use Rattle.std.specs.Int.{bit_at};
 ghost use Rattle.queues.specs.Lists.{times};
 ghost use Rattle.queues.specs.Lowest.{marked};
 ghost use Rattle.queues.specs.Meaning.{Empty};
@@ -59,7 +59,7 @@ fn lower_first(a: u8, b: u8) -> (Option<u8>, Option<u8>)
 
 // Of two numbers the one whose bit is set leaves a pair first, though it came last.
 fn masked_first(mask: u64, a: u8, b: u8) -> (Option<u8>, Option<u8>)
-    ensures { a < 64 → b < 64 → bit mask a ≡ 1 → bit mask b ≡ 0 → result ≡ (Some a, Some b) }
+    ensures { a < 64 → b < 64 → bit_at mask a ≡ 1 → bit_at mask b ≡ 0 → result ≡ (Some a, Some b) }
 {
     let mut pair = Pair::new(LowestFirst::new(), Ring::new(), mask);
     pair.put(b);

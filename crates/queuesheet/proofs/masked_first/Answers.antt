@@ -1,5 +1,5 @@
 use Rattle.std.proofs.Common.{ℕ, sym, ap, ◌∙◌, subst}
-use Rattle.queues.specs.Bits.{bit}
+use Rattle.std.specs.Int.{bit_at}
 use Rattle.queues.specs.Lists.{times}
 use Rattle.queues.specs.Lowest.{marked}
 use Rattle.queues.specs.Meaning.{Empty}
@@ -16,8 +16,8 @@ returns c small_a small_b set unset =
     let made = c.new-pair.ensures in
     let none = subst (λ (q : LowestFirst). Empty (marked q)) (sym made.0) c.new.ensures in
     let nought = subst (λ (q : Ring). Empty (times (line q))) (sym made.1) c.new-2.ensures.empty in
-    let set_a = ap (λ (m : ℕ). bit m a) made.2 ∙ set in
-    let unset_b = ap (λ (m : ℕ). bit m b) made.2 ∙ unset in
+    let set_a = ap (λ (m : ℕ). bit_at m a) made.2 ∙ set in
+    let unset_b = ap (λ (m : ℕ). bit_at m b) made.2 ∙ unset in
     let out = masked_first marked (λ ring. times (line ring)) _ _ _ _ _ a b _ _ none nought c.put.ensures.route c.put-2.ensures.route c.take-first.ensures.order c.take.ensures.order small_a small_b set_a unset_b in
     let first = out.0 in
     let next = out.1 in
