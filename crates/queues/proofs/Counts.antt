@@ -1,49 +1,55 @@
 -- How many different numbers are held, and how many in all. Assumes nothing.
-use Rattle.std.proofs.Common.{◌≡◌, ℕ, zero, suc, ◌+◌, ◌-◌, ◌<◌, ◌≤◌, true, false, cond, eqb, ltb, refl, ap, ◌∙◌, ⊎_elim, add-one, arith}
+use Rattle.std.proofs.Common.{◌≡◌, ℕ, zero, suc, ◌+◌, ◌-◌, ◌<◌, ◌≤◌, cond, eqb, ltb, List, [], ◌∷◌, ◌++◌, sum_by, inl, inr, sym, refl, ap, ◌∙◌, add-one, arith}
+use Rattle.std.proofs.Math.Path.{fun_ext}
 use Rattle.std.proofs.lemmas.Bool.{cases_eq}
 use Rattle.std.proofs.lemmas.Bool.Decides.{nat_tests}
+use Rattle.std.proofs.lemmas.List.{map-id}
+use Rattle.std.proofs.lemmas.List.FromFn.{map-range_with_len_more}
+use Rattle.std.proofs.lemmas.List.Sums.{sum_by_push}
+use Rattle.std.specs.List.{range_with_len}
 use Rattle.queues.specs.Meaning.{different}
-
--- one more number looked at
-pub different_none : (held : ℕ → ℕ) → different held 0 ≡ 0
-unfolding different
-different_none held = refl
-
-pub different_held : (held : ℕ → ℕ) (k : ℕ) → ltb 0 (held k) ≡ true → different held (k + 1) ≡ different held k + 1
-unfolding different
-different_held held k e = ap (different held) (add-one k) ∙ grind (arith, nat_tests)
-
-pub different_free : (held : ℕ → ℕ) (k : ℕ) → ltb 0 (held k) ≡ false → different held (k + 1) ≡ different held k
-unfolding different
-different_free held k e = ap (different held) (add-one k) ∙ grind (arith, nat_tests)
 
 -- how many are held in all, of the numbers below a bound
 unfoldable pub total : (ℕ → ℕ) → ℕ → ℕ
-total held zero = 0
-total held (suc k) = total held k + held k
+total held bound = sum_by held (range_with_len 0 bound)
+
+pub total-zero : (held : ℕ → ℕ) → total held 0 ≡ 0
+unfolding total
+total-zero held = refl
+
+pub total-suc : (held : ℕ → ℕ) (m : ℕ) → total held (suc m) ≡ total held m + held m
+unfolding total
+total-suc held m =
+    let last : range_with_len 0 (m + 1) ≡ range_with_len 0 m ++ m ∷ [] =
+    sym (map-id (range_with_len 0 (m + 1))) ∙ map-range_with_len_more (λ k. k) 0 m m (omega arith) ∙ ap (λ (ks : List ℕ). ks ++ m ∷ []) (map-id (range_with_len 0 m)) in
+    ap (λ (j : ℕ). sum_by held (range_with_len 0 j)) (sym (add-one m)) ∙ ap (sum_by held) last ∙ sum_by_push held (range_with_len 0 m) m
+
+pub total-first : (held : ℕ → ℕ) (m : ℕ) → total held (suc m) ≡ held 0 + total (λ k. held (suc k)) m
+total-first held zero = omega (arith, total-suc held 0, total-zero held, total-zero (λ k. held (suc k)))
+total-first held (suc m) = omega (arith, total-suc held (suc m), total-suc (λ k. held (suc k)) m, total-first held m)
+
+pub different-total : (held : ℕ → ℕ) (m : ℕ) → different held m ≡ total (λ k. cond (ltb 0 (held k)) 1 0) m
+unfolding total different
+different-total held m = refl
 
 -- where none is held twice, as many are held as different ones
 pub total_different : (held : ℕ → ℕ) (m : ℕ) → ((k : ℕ) → held k ≤ 1) → different held m ≡ total held m
-unfolding total different
-total_different held zero once = refl
-total_different held (suc m) once = grind (arith, nat_tests, total_different held m once, once m)
+total_different held m once = different-total held m ∙ ap (λ (f : ℕ → ℕ). total f m) (fun_ext (λ k. grind (arith, nat_tests, once k)))
 
 -- and a number that is not held leaves the sum below the bound
 pub total_less : (held : ℕ → ℕ) (n m : ℕ) → ((k : ℕ) → held k ≤ 1) → held n ≡ 0 → total held m + cond (ltb n m) 1 0 ≤ m
-unfolding total
-total_less held n zero once free = grind (arith, nat_tests)
+total_less held n zero once free = grind (arith, nat_tests, total-zero held)
 total_less held n (suc m) once free =
-    ⊎_elim
-    (λ (e : m ≡ n). grind (arith, nat_tests, total_less held n m once free, ap held e ∙ free))
-    (λ (e : m ≡ n → ⊥). grind (arith, nat_tests, total_less held n m once free, once m))
-    (cases_eq m n)
+    elim (cases_eq m n) [
+      | inl e ↦ grind (arith, nat_tests, total-suc held m, total_less held n m once free, ap held e ∙ free)
+      | inr other ↦ grind (arith, nat_tests, total-suc held m, total_less held n m once free, once m)
+    ]
 
 -- a number taken is one less in all
 pub total_taken : (before after : ℕ → ℕ) (n m : ℕ) → 0 < before n → ((k : ℕ) → after k ≡ before k - cond (eqb k n) 1 0) → total after m + cond (ltb n m) 1 0 ≡ total before m
-unfolding total
-total_taken before after n zero some less = grind (arith, nat_tests)
+total_taken before after n zero some less = grind (arith, nat_tests, total-zero before, total-zero after)
 total_taken before after n (suc m) some less =
-    ⊎_elim
-    (λ (e : m ≡ n). grind (arith, nat_tests, total_taken before after n m some less, less m, ap before e))
-    (λ (e : m ≡ n → ⊥). grind (arith, nat_tests, total_taken before after n m some less, less m))
-    (cases_eq m n)
+    elim (cases_eq m n) [
+      | inl e ↦ grind (arith, nat_tests, total-suc before m, total-suc after m, total_taken before after n m some less, less m, ap before e)
+      | inr other ↦ grind (arith, nat_tests, total-suc before m, total-suc after m, total_taken before after n m some less, less m)
+    ]

@@ -9,6 +9,7 @@ use Rattle.std.specs.Int.{bit_at, trailing_zeros, w64}
 use Rattle.std.specs.Int.Count.{ones, ones_step, ones-ones}
 use Rattle.queues.specs.Lowest.{GivesLowest}
 use Rattle.queues.specs.Meaning.{different, Puts, Takes}
+use Rattle.queues.proofs.Counts.{total, total-first, total-zero, total_different}
 
 -- `|= 1 << n` holds the number, where it is one up to 63
 pub puts_bit : (w n : ℕ) → n < 64 → Puts (bit_at w) n (bit_at (bit_or w ((1 * 2 ^ n) % 2 ^ 64)))
@@ -35,15 +36,12 @@ pub gives_lowest : (w : ℕ) → 0 < w → w < 2 ^ 64 → GivesLowest (bit_at w)
 gives_lowest w some fits = let (_, held, below) = bit_at-trailing_zeros w64 w some fits in (omega arith, below)
 
 -- how many are set
-low_first : (h : ℕ → ℕ) (k : ℕ) → different h (suc k) ≡ cond (eqb (h 0) 0) 0 1 + different (λ j. h (suc j)) k
-unfolding different
-low_first h zero = omega arith
-low_first h (suc k) = omega (arith, low_first h k)
+ones_total : (k w : ℕ) → w < 2 ^ k → ones w ≡ total (bit_at w) k
+ones_total zero w fits = ap ones (omega arith) ∙ ones-ones 0 ∙ sym (total-zero (bit_at w))
+ones_total (suc k) w fits =
+    let half : w / 2 < 2 ^ k = omega (arith, pow-suc 2 k) in
+    let rest : total (λ j. bit_at w (suc j)) k ≡ total (bit_at (w / 2)) k = ap (λ (h : ℕ → ℕ). total h k) (fun_ext (λ j. bit_at-suc w j)) in
+    omega (arith, ones_step w, ones_total k (w / 2) half, rest, total-first (bit_at w) k, bit_at_lowest w)
 
 pub ones_different : (k w : ℕ) → w < 2 ^ k → ones w ≡ different (bit_at w) k
-unfolding different
-ones_different zero w fits = ap ones (omega arith) ∙ ones-ones 0
-ones_different (suc k) w fits =
-    let half : w / 2 < 2 ^ k = omega (arith, pow-suc 2 k) in
-    let same : different (bit_at (w / 2)) k ≡ different (λ j. bit_at w (suc j)) k = ap (λ (h : ℕ → ℕ). different h k) (fun_ext (λ j. sym (bit_at-suc w j))) in
-    ones_step w ∙ grind (arith, nat_tests, ones_different k (w / 2) half, same, low_first (bit_at w) k, bit_at_lowest w, bit_at-lt w 0)
+ones_different k w fits = ones_total k w fits ∙ sym (total_different (bit_at w) k (λ j. omega (arith, bit_at-lt w j)))

@@ -1,5 +1,6 @@
 -- What a ready queue means: how often it holds each number. Assumes nothing.
-use Rattle.std.specs.Prelude.{◌≡◌, ℕ, zero, suc, ◌+◌, ◌-◌, ◌<◌, Bool, cond, ◌&&◌, Some, None, Option, ◌==◌, nat_lt}
+use Rattle.std.specs.Prelude.{◌≡◌, ℕ, ◌-◌, ◌<◌, Bool, cond, ◌&&◌, Some, None, Option, ◌==◌, nat_lt, count_by}
+use Rattle.std.specs.List.{range_with_len}
 
 -- nothing is held
 abbrev pub Empty : (ℕ → ℕ) → Type 0
@@ -20,5 +21,4 @@ Takes before (Some n) after = (n < 64) × (0 < before n) × ((k : ℕ) → after
 
 -- how many different numbers below a bound are held
 unfoldable pub different : (ℕ → ℕ) → ℕ → ℕ
-different held zero = 0
-different held (suc k) = different held k + cond (held k == 0) 0 1
+different held bound = count_by (λ k. nat_lt 0 (held k)) (range_with_len 0 bound)

@@ -46,6 +46,7 @@ impl<F: ReadyQueue, S: ReadyQueue> ReadyQueue for Pair<F, S> {
         ensures takes { Takes (joint F.ReadyQueue.held S.ReadyQueue.held self.old) result (joint F.ReadyQueue.held S.ReadyQueue.held self.new) }
         ensures order { FirstBeforeSecond F.ReadyQueue.held S.ReadyQueue.held self.old result self.new }
     {
+        // Not by or_else: after it a proof knows nothing of the second, which its closure changes.
         if let Some(n) = self.first.take() {
             return Some(n);
         }
@@ -65,12 +66,6 @@ impl<F: ReadyQueue, S: ReadyQueue> ReadyQueue for Pair<F, S> {
     }
 
     fn count(&self) -> u8 {
-        let mut count = 0;
-        for n in 0..64 {
-            if self.holds(n) {
-                count += 1;
-            }
-        }
-        count
+        (0..64).filter(|n| self.holds(*n)).count() as u8
     }
 }

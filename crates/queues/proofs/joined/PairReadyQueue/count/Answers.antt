@@ -1,20 +1,16 @@
-use Rattle.std.proofs.Common.{sym, ap, ◌∙◌, arith}
+use Rattle.std.proofs.Common.{ltb, refl, ◌∙◌, rules, tests}
+use Rattle.std.specs.List.{range_with_len}
+use Rattle.std.proofs.lemmas.Iterator.{YieldsList-from_range}
+use Rattle.std.proofs.lemmas.Iterator.Consumers.{YieldsList-at, YieldsList-from_filter, count_from_yields_List}
+use Rattle.std.proofs.lemmas.List.Sums.{length-filter}
 use Rattle.queues.specs.Meaning.{different}
 use Rattle.queues.specs.Pair.{joint}
 use Rattle.queues.proofs.joined.PairReadyQueue.count.Goals as goal
-use Rattle.queues.proofs.joined.PairReadyQueue.count.Goals.{then-holds, else-holds}
-use Rattle.queues.proofs.Counts.{different_none, different_held, different_free}
-
-pub loop-n-init : goal.loop-n-init
-loop-n-init g c = (omega arith, sym (different_none _))
-
-pub loop-n-preserved : goal.loop-n-preserved
-loop-n-preserved g c =
-    let h = joint g.F.ReadyQueue.held g.S.ReadyQueue.held c.args.self.now in
-    elim c.if-holds.branch [
-      | then-holds w ↦ let more = different_held h c.loop-n.n (sym c.holds.ensures ∙ w.if-holds.true) in (omega (arith, w.count-is), omega (arith, w.count-is, more))
-      | else-holds w ↦ let more = different_free h c.loop-n.n (sym c.holds.ensures ∙ w.if-holds.false) in (omega (arith, w.count-is), omega (arith, w.count-is, more))
-    ]
 
 pub returns : goal.returns
-returns g c = c.loop-n.invariant.1 ∙ ap (different _) (omega arith)
+unfolding different
+returns g c =
+    let held = joint g.F.ReadyQueue.held g.S.ReadyQueue.held c.args.self.now in
+    let numbers = YieldsList-at c.filter.ensures.source (YieldsList-from_range 0 64 64 refl refl) in
+    count_from_yields_List c.filter.result _ c.count.ensures.ran (YieldsList-from_filter _ (λ n. ltb 0 (held n)) numbers c.filter.ensures.closure (λ x b q k. search (rules, tests)))
+    ∙ length-filter (λ n. ltb 0 (held n)) (range_with_len 0 64)

@@ -2,7 +2,7 @@ use Rattle.std.proofs.Common.{sym, ◌∙◌}
 use Rattle.queues.specs.Ring.{line}
 use Rattle.queues.proofs.Rounds.{around_length}
 use Rattle.queues.proofs.Times.{different_length}
-use Rattle.queues.proofs.oldest.calls.RingReadyQueue.count.Goals as goal
+use Rattle.queues.proofs.oldest.RingReadyQueue.count.Goals as goal
 
 pub returns : goal.returns
 returns c =
