@@ -28,13 +28,10 @@ pub total-first : (held : ℕ → ℕ) (m : ℕ) → total held (suc m) ≡ held
 total-first held zero = omega (arith, total-suc held 0, total-zero held, total-zero (λ k. held (suc k)))
 total-first held (suc m) = omega (arith, total-suc held (suc m), total-suc (λ k. held (suc k)) m, total-first held m)
 
-pub different-total : (held : ℕ → ℕ) (m : ℕ) → different held m ≡ total (λ k. cond (ltb 0 (held k)) 1 0) m
-unfolding total different
-different-total held m = refl
-
 -- where none is held twice, as many are held as different ones
 pub total_different : (held : ℕ → ℕ) (m : ℕ) → ((k : ℕ) → held k ≤ 1) → different held m ≡ total held m
-total_different held m once = different-total held m ∙ ap (λ (f : ℕ → ℕ). total f m) (fun_ext (λ k. grind (arith, nat_tests, once k)))
+unfolding total different
+total_different held m once = ap (λ (f : ℕ → ℕ). sum_by f (range_with_len 0 m)) (fun_ext (λ k. grind (arith, nat_tests, once k)))
 
 -- and a number that is not held leaves the sum below the bound
 pub total_less : (held : ℕ → ℕ) (n m : ℕ) → ((k : ℕ) → held k ≤ 1) → held n ≡ 0 → total held m + cond (ltb n m) 1 0 ≤ m

@@ -1,5 +1,5 @@
 -- Lists in which each number up to 63 stands at most once: a number appended, and the head taken off. Assumes nothing.
-use Rattle.std.proofs.Common.{◌≡◌, ℕ, zero, suc, ◌+◌, ◌<◌, ◌≤◌, cond, eqb, ltb, List, [], ◌∷◌, ◌++◌, length, map, Some, None, inl, inr, refl, ap, ◌∙◌, arith}
+use Rattle.std.proofs.Common.{◌≡◌, ℕ, zero, suc, ◌+◌, ◌<◌, ◌≤◌, cond, eqb, ltb, List, [], ◌∷◌, ◌++◌, length, map, Some, inl, inr, refl, ap, ◌∙◌, arith}
 use Rattle.std.proofs.lemmas.Bool.{cases_eq}
 use Rattle.std.proofs.lemmas.Bool.Decides.{nat_tests}
 use Rattle.std.proofs.lemmas.List.Sums.{sum_by-cons, sum_by_push}
@@ -18,9 +18,6 @@ times_last ns n k = sum_by_push (λ m. cond (eqb m k) 1 0) ns n
 pub any_times : (f : ℕ → ℕ) (is : List ℕ) (k : ℕ) → list_any (λ i. eqb (f i) k) is ≡ ltb 0 (times (map f is) k)
 any_times f [] k = refl
 any_times f (i ∷ is) k = grind (arith, nat_tests, times_first (f i) (map f is) k, any_times f is k)
-
-pub once_none : Once []
-once_none k = omega arith
 
 once_head : (n : ℕ) (ns : List ℕ) → Once (n ∷ ns) → n < 64
 once_head n ns once = grind (arith, nat_tests, once n, times_first n ns n)
@@ -68,6 +65,3 @@ puts_last ns n small free k =
 
 pub takes_head : (n : ℕ) (ns : List ℕ) → Once (n ∷ ns) → Takes (times (n ∷ ns)) (Some n) (times ns)
 takes_head n ns once = (once_head n ns once, grind (arith, nat_tests, times_first n ns n), λ k. grind (arith, nat_tests, times_first n ns k))
-
-pub takes_none : Takes (times []) None (times [])
-takes_none = (λ k. refl, λ k. refl)

@@ -1,5 +1,5 @@
 -- The bits of a word, one by one: a bit set, a bit turned over, the lowest, how many. Assumes nothing.
-use Rattle.std.proofs.Common.{◌≡◌, ℕ, zero, suc, ◌+◌, ◌-◌, ◌*◌, ◌/◌, ◌%◌, ◌^◌, ◌<◌, cond, eqb, Some, inl, inr, sym, ap, ◌∙◌, pow-suc, bit_or, bit_xor, arith}
+use Rattle.std.proofs.Common.{◌≡◌, ℕ, zero, suc, ◌-◌, ◌*◌, ◌/◌, ◌%◌, ◌^◌, ◌<◌, cond, eqb, Some, inl, inr, sym, ap, ◌∙◌, pow-suc, bit_or, bit_xor, arith}
 use Rattle.std.proofs.Math.Path.{fun_ext}
 use Rattle.std.proofs.lemmas.Bool.{cases_eq}
 use Rattle.std.proofs.lemmas.Bool.Decides.{nat_tests}

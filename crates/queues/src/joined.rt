@@ -16,7 +16,9 @@ pub struct Pair<F, S> {
 impl<F, S> Pair<F, S> {
     // Joins two queues as they are.
     pub fn new(first: F, second: S, mask: u64) -> Pair<F, S>
-        ensures { (result.first ≡ first) × (result.second ≡ second) × (result.mask ≡ mask) }
+        ensures first { result.first ≡ first }
+        ensures second { result.second ≡ second }
+        ensures mask { result.mask ≡ mask }
     {
         Pair {
             first,

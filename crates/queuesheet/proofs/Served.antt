@@ -1,5 +1,5 @@
 -- Two numbers put into an empty queue, and the order in which they leave it. Assumes nothing.
-use Rattle.std.proofs.Common.{◌≡◌, ℕ, ◌<◌, cond, eqb, Some, None, Option, sym, ap, ◌∙◌, subst, ⊎_elim, arith}
+use Rattle.std.proofs.Common.{◌≡◌, ℕ, ◌<◌, cond, eqb, Some, None, Option, sym, ap, ◌∙◌, subst, inl, inr, arith}
 use Rattle.std.proofs.lemmas.Bool.{cases_order}
 use Rattle.std.proofs.lemmas.Bool.Decides.{nat_tests}
 use Rattle.std.specs.Int.{bit_at}
@@ -27,7 +27,11 @@ only_taken before after (Some m) n only (_, some, less) =
 lowest_given : (held : ℕ → ℕ) (o : Option ℕ) (n : ℕ) → GivesLowest held o → 0 < held n → ((k : ℕ) → k < n → held k ≡ 0) → o ≡ Some n
 lowest_given held None n none some below = absurd (omega (arith, none n))
 lowest_given held (Some m) n (given, lower) some below =
-    ⊎_elim (λ (e : m ≡ n). ap Some e) (⊎_elim (λ l. absurd (omega (arith, below m l))) (λ l. absurd (omega (arith, lower n l)))) (cases_order m n)
+    elim (cases_order m n) [
+      | inl e ↦ ap Some e
+      | inr (inl l) ↦ absurd (omega (arith, below m l))
+      | inr (inr l) ↦ absurd (omega (arith, lower n l))
+    ]
 
 pub lower_first : (h i j l : ℕ → ℕ) (a b : ℕ) (o p : Option ℕ) → Empty h → Puts h b i → Puts i a j → Takes j o l → GivesLowest j o → GivesLowest l p → a < b → b < 64 → (o ≡ Some a) × (p ≡ Some b)
 lower_first h i j l a b o p none put_b put_a takes low next less small =

@@ -35,6 +35,9 @@ fn serve<Q: ReadyQueue>(rt: &HostRuntime, name: &str, queue: &mut Q) -> anyhow::
     show(rt, name, queue)
 }
 
+// The next three are no one generic function: which number leaves first is promised by each
+// queue's own clauses, and of a `Q: ReadyQueue` a proof knows the trait's alone.
+
 // Two different numbers leave a ring in the order in which they came.
 fn in_order(a: u8, b: u8) -> (Option<u8>, Option<u8>)
     ensures { a < 64 → b < 64 → (a ≢ b) → result ≡ (Some a, Some b) }

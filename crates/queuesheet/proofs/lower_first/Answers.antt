@@ -3,7 +3,5 @@ use Rattle.queuesheet.proofs.lower_first.Goals as goal
 
 pub returns : goal.returns
 returns c less small =
-    let out = lower_first _ _ _ _ c.args.a c.args.b _ _ c.new-queue.ensures c.put.ensures c.put-2.ensures c.take-first.ensures.takes c.take-first.ensures.order c.take.ensures.order less small in
-    let first = out.0 in
-    let next = out.1 in
+    let (first, next) = lower_first _ _ _ _ c.args.a c.args.b _ _ c.new-queue.ensures c.put.ensures c.put-2.ensures c.take-first.ensures.takes c.take-first.ensures.order c.take.ensures.order less small in
     cc

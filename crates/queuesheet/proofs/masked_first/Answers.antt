@@ -14,11 +14,9 @@ returns c small_a small_b set unset =
     let a = c.args.a in
     let b = c.args.b in
     let made = c.new-pair.ensures in
-    let none = subst (λ (q : LowestFirst). Empty (marked q)) (sym made.0) c.new.ensures in
-    let nought = subst (λ (q : Ring). Empty (times (line q))) (sym made.1) c.new-2.ensures.empty in
-    let set_a = ap (λ (m : ℕ). bit_at m a) made.2 ∙ set in
-    let unset_b = ap (λ (m : ℕ). bit_at m b) made.2 ∙ unset in
-    let out = masked_first marked (λ ring. times (line ring)) _ _ _ _ _ a b _ _ none nought c.put.ensures.route c.put-2.ensures.route c.take-first.ensures.order c.take.ensures.order small_a small_b set_a unset_b in
-    let first = out.0 in
-    let next = out.1 in
+    let none = subst (λ (q : LowestFirst). Empty (marked q)) (sym made.first) c.new.ensures in
+    let nought = subst (λ (q : Ring). Empty (times (line q))) (sym made.second) c.new-2.ensures.empty in
+    let set_a = ap (λ (m : ℕ). bit_at m a) made.mask ∙ set in
+    let unset_b = ap (λ (m : ℕ). bit_at m b) made.mask ∙ unset in
+    let (first, next) = masked_first marked (λ ring. times (line ring)) _ _ _ _ _ a b _ _ none nought c.put.ensures.route c.put-2.ensures.route c.take-first.ensures.order c.take.ensures.order small_a small_b set_a unset_b in
     cc
