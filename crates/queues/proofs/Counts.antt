@@ -17,12 +17,14 @@ pub total-zero : (held : ℕ → ℕ) → total held 0 ≡ 0
 unfolding total
 total-zero held = refl
 
+range_last : (m : ℕ) → range_with_len 0 (suc m) ≡ range_with_len 0 m ++ m ∷ []
+range_last m =
+    ap (range_with_len 0) (sym (add-one m)) ∙ sym (map-id (range_with_len 0 (m + 1))) ∙ map-range_with_len_more (λ k. k) 0 m m (omega arith)
+    ∙ ap (λ (ks : List ℕ). ks ++ m ∷ []) (map-id (range_with_len 0 m))
+
 pub total-suc : (held : ℕ → ℕ) (m : ℕ) → total held (suc m) ≡ total held m + held m
 unfolding total
-total-suc held m =
-    let last : range_with_len 0 (m + 1) ≡ range_with_len 0 m ++ m ∷ [] =
-    sym (map-id (range_with_len 0 (m + 1))) ∙ map-range_with_len_more (λ k. k) 0 m m (omega arith) ∙ ap (λ (ks : List ℕ). ks ++ m ∷ []) (map-id (range_with_len 0 m)) in
-    ap (λ (j : ℕ). sum_by held (range_with_len 0 j)) (sym (add-one m)) ∙ ap (sum_by held) last ∙ sum_by_push held (range_with_len 0 m) m
+total-suc held m = ap (sum_by held) (range_last m) ∙ sum_by_push held (range_with_len 0 m) m
 
 pub total-first : (held : ℕ → ℕ) (m : ℕ) → total held (suc m) ≡ held 0 + total (λ k. held (suc k)) m
 total-first held zero = omega (arith, total-suc held 0, total-zero held, total-zero (λ k. held (suc k)))

@@ -29,11 +29,11 @@ impl<F, S> Pair<F, S> {
 }
 
 impl<F: ReadyQueue, S: ReadyQueue> ReadyQueue for Pair<F, S> {
-    ghost held = { joint F.ReadyQueue.held S.ReadyQueue.held };
+    ghost held = { joint F.held S.held };
 
     fn put(&mut self, n: u8)
-        ensures puts { Puts (joint F.ReadyQueue.held S.ReadyQueue.held self.old) n (joint F.ReadyQueue.held S.ReadyQueue.held self.new) }
-        ensures route { Routes F.ReadyQueue.held S.ReadyQueue.held self.old n self.new }
+        ensures puts { Puts (joint F.held S.held self.old) n (joint F.held S.held self.new) }
+        ensures route { Routes F.held S.held self.old n self.new }
     {
         if n < 64 && !self.holds(n) {
             if is_set(self.mask, n) {
@@ -45,8 +45,8 @@ impl<F: ReadyQueue, S: ReadyQueue> ReadyQueue for Pair<F, S> {
     }
 
     fn take(&mut self) -> Option<u8>
-        ensures takes { Takes (joint F.ReadyQueue.held S.ReadyQueue.held self.old) result (joint F.ReadyQueue.held S.ReadyQueue.held self.new) }
-        ensures order { FirstBeforeSecond F.ReadyQueue.held S.ReadyQueue.held self.old result self.new }
+        ensures takes { Takes (joint F.held S.held self.old) result (joint F.held S.held self.new) }
+        ensures order { FirstBeforeSecond F.held S.held self.old result self.new }
     {
         // Not by or_else: after it a proof knows nothing of the second, which its closure changes.
         if let Some(n) = self.first.take() {
@@ -56,7 +56,7 @@ impl<F: ReadyQueue, S: ReadyQueue> ReadyQueue for Pair<F, S> {
     }
 
     fn clear(&mut self)
-        ensures empty { Empty (joint F.ReadyQueue.held S.ReadyQueue.held self.new) }
+        ensures empty { Empty (joint F.held S.held self.new) }
         ensures mask { self.new.mask ≡ self.old.mask }
     {
         self.first.clear();

@@ -4,7 +4,8 @@ ghost use Rattle.queues.specs.Meaning.{Empty, Takes};
 use crate::bits::is_set;
 use crate::queue::ReadyQueue;
 
-// A queue that hands over the lowest number it holds: a word with a bit for each number.
+// A queue that hands over the lowest number it holds: a word with a bit for each number, so that
+// a take counts trailing zeros and a count ones.
 #[derive(Drop)]
 pub struct LowestFirst {
     word: u64,
@@ -45,6 +46,7 @@ impl ReadyQueue for LowestFirst {
     }
 
     fn holds(&self, n: u8) -> bool {
+        // Read also where n is above 63, so that the proof knows there that the word fits.
         let word = self.word;
         n < 64 && is_set(word, n)
     }

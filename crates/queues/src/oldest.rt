@@ -5,8 +5,8 @@ ghost use Rattle.queues.specs.Round.{around};
 
 use crate::queue::ReadyQueue;
 
-// A queue that hands over the number it has held longest: 64 places in a circle. No put may be
-// refused, so it allocates nothing: a fixed array with its length, and not a VecDeque.
+// A queue that hands over the number it has held longest: 64 places in a circle. Its memory is
+// fixed, for no put may be refused: an array with a length beside it, and not a VecDeque.
 #[derive(Drop)]
 pub struct Ring {
     places: [u8; 64],
