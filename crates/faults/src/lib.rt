@@ -7,7 +7,7 @@ ghost use Rattle.faults.specs.Refusal.{layer_name, refusal_line};
 use std::fmt;
 
 // The part of the engine that refuses. The host is whoever calls it.
-#[derive(Clone, Copy, PartialEq, Debug)]
+#[derive(Clone, Copy, Debug, PartialEq, Eq)]
 pub enum Layer {
     Words,
     Lines,
@@ -16,7 +16,7 @@ pub enum Layer {
 }
 
 // A refusal. Lines and bytes are counted from 1; byte 0 means the whole line, line 0 the whole text.
-#[derive(Clone, Copy, PartialEq, Debug)]
+#[derive(Clone, Copy, Debug, PartialEq, Eq)]
 pub struct Fault {
     pub number: u8,
     pub layer: Layer,

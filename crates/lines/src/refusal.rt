@@ -47,7 +47,7 @@ impl LineFault {
         ensures { result ≡ fault_of self }
     {
         let (number, layer, line, byte) = match self {
-            LineFault::Words(fault) => return fault.fault(),
+            LineFault::Words(fault) => return fault.into(),
             LineFault::NoForm { line } => (6, Layer::Lines, line, 0),
             LineFault::Name { line, byte } => (7, Layer::Lines, line, byte),
             LineFault::WrongType { line } => (8, Layer::Lines, line, 0),

@@ -128,7 +128,7 @@ fn with_forms(heap: Global, text: &[u8], entries: &[Entry]) -> Result<Vec<u8>, A
             Ok(out)
         }
         Err(WordFault::Memory) => Err(AllocError),
-        Err(refusal) => refusal_line(heap, refusal.fault()),
+        Err(refusal) => refusal_line(heap, refusal.into()),
     }
 }
 

@@ -3,159 +3,54 @@
 
 ghost use Rattle.std.specs.Prelude.{◌≡◌, ◌+◌, ◌*◌, length, IfOk, vec_len};
 
+use faults::Fault;
 use listing::listing;
 use std::alloc::{AllocError, Global};
 use std::io::Write;
 
-struct Case {
-    name: &'static str,
-    text: &'static [u8],
-}
-
-static CASES: [Case; 35] = [
-    Case {
-        name: "an empty text",
-        text: b"",
-    },
-    Case {
-        name: "no final end of line",
-        text: b"SKIP",
-    },
-    Case {
-        name: "one end of line",
-        text: b"\n",
-    },
-    Case {
-        name: "a space before byte 13",
-        text: b"SKIP \r\n",
-    },
-    Case {
-        name: "byte 9",
-        text: b"\tSKIP",
-    },
-    Case {
-        name: "byte 127",
-        text: b"a\x7f",
-    },
-    Case {
-        name: "byte 200 in line 2",
-        text: b"SKIP\nab\xc8",
-    },
-    Case {
-        name: "a comment with a bad byte",
-        text: b"-- a\x07",
-    },
-    Case {
-        name: "two bad bytes",
-        text: b"a\x01\x02",
-    },
-    Case {
-        name: "one leading space",
-        text: b" SKIP",
-    },
-    Case {
-        name: "three leading spaces",
-        text: b"   SKIP",
-    },
-    Case {
-        name: "two leading spaces",
-        text: b"  SKIP",
-    },
-    Case {
-        name: "an odd count of spaces alone",
-        text: b"   ",
-    },
-    Case {
-        name: "an odd count of spaces before a comment",
-        text: b" -- one",
-    },
-    Case {
-        name: "a space before an unknown sign",
-        text: b" #",
-    },
-    Case {
-        name: "an unknown sign alone",
-        text: b"#",
-    },
-    Case {
-        name: "a name of 16 bytes",
-        text: b"abcdefghijklmnop",
-    },
-    Case {
-        name: "a name of 17 bytes",
-        text: b"x abcdefghijklmnopq",
-    },
-    Case {
-        name: "the largest number",
-        text: b"2147483647",
-    },
-    Case {
-        name: "a number too big",
-        text: b"a 2147483648",
-    },
-    Case {
-        name: "leading zeros",
-        text: b"0000000000012",
-    },
-    Case {
-        name: "no spaces",
-        text: b"a:=b",
-    },
-    Case {
-        name: "a comment in a word's place",
-        text: b"a--1",
-    },
-    Case {
-        name: "signs of two bytes",
-        text: b"<><=>=:=",
-    },
-    Case {
-        name: "signs that look longer",
-        text: b"=<:< =",
-    },
-    Case {
-        name: "digits and letters",
-        text: b"12ab",
-    },
-    Case {
-        name: "a full stop after digits",
-        text: b"12.",
-    },
-    Case {
-        name: "a full stop after a keyword",
-        text: b"TRUE.",
-    },
-    Case {
-        name: "a keyword in small letters",
-        text: b"skip",
-    },
-    Case {
-        name: "the leftmost of two faults",
-        text: b"$ 2147483648",
-    },
-    Case {
-        name: "an earlier line's fault",
-        text: b"a\n #\n\x01",
-    },
-    Case {
-        name: "every sign and keyword",
-        text: b"?!&:,()+-*/\\=<> < > AFTER ALT AND AT CHAN FALSE IF INT MINUS NOT OF OR PAR\nPLACE PLUS PRI SEQ SKIP STOP TIMER TIMES TRUE WHILE",
-    },
-    Case {
-        name: "32 leading spaces",
-        text: b"                                a",
-    },
-    Case {
-        name: "33 leading spaces",
-        text: b"                                 a",
-    },
-    Case {
-        name: "34 leading spaces",
-        text: b"                                  a",
-    },
+// Texts, each with the name of its case.
+static CASES: [(&str, &[u8]); 35] = [
+    ("an empty text", b""),
+    ("no final end of line", b"SKIP"),
+    ("one end of line", b"\n"),
+    ("a space before byte 13", b"SKIP \r\n"),
+    ("byte 9", b"\tSKIP"),
+    ("byte 127", b"a\x7f"),
+    ("byte 200 in line 2", b"SKIP\nab\xc8"),
+    ("a comment with a bad byte", b"-- a\x07"),
+    ("two bad bytes", b"a\x01\x02"),
+    ("one leading space", b" SKIP"),
+    ("three leading spaces", b"   SKIP"),
+    ("two leading spaces", b"  SKIP"),
+    ("an odd count of spaces alone", b"   "),
+    ("an odd count of spaces before a comment", b" -- one"),
+    ("a space before an unknown sign", b" #"),
+    ("an unknown sign alone", b"#"),
+    ("a name of 16 bytes", b"abcdefghijklmnop"),
+    ("a name of 17 bytes", b"x abcdefghijklmnopq"),
+    ("the largest number", b"2147483647"),
+    ("a number too big", b"a 2147483648"),
+    ("leading zeros", b"0000000000012"),
+    ("no spaces", b"a:=b"),
+    ("a comment in a word's place", b"a--1"),
+    ("signs of two bytes", b"<><=>=:="),
+    ("signs that look longer", b"=<:< ="),
+    ("digits and letters", b"12ab"),
+    ("a full stop after digits", b"12."),
+    ("a full stop after a keyword", b"TRUE."),
+    ("a keyword in small letters", b"skip"),
+    ("the leftmost of two faults", b"$ 2147483648"),
+    ("an earlier line's fault", b"a\n #\n\x01"),
+    (
+        "every sign and keyword",
+        b"?!&:,()+-*/\\=<> < > AFTER ALT AND AT CHAN FALSE IF INT MINUS NOT OF OR PAR\nPLACE PLUS PRI SEQ SKIP STOP TIMER TIMES TRUE WHILE",
+    ),
+    ("32 leading spaces", b"                                a"),
+    ("33 leading spaces", b"                                 a"),
+    ("34 leading spaces", b"                                  a"),
 ];
 
-// Lines of one byte, so many times, and what follows them.
+// Lines of one byte, so many times, and what follows them: no tuple, since two of the numbers have one type.
 struct Filled {
     name: &'static str,
     lines: usize,
@@ -221,10 +116,8 @@ fn text_of(heap: Global, case: &Filled) -> Result<Vec<u8>, AllocError>
     ensures { IfOk result (λ v. vec_len v ≡ case.now.lines * (case.now.bytes + 1) + length case.now.end.now) }
 {
     let mut text = Vec::new(heap);
-    for row in 0..case.lines {
-        for column in 0..case.bytes {
-            text.push(case.byte)?;
-        }
+    for _ in 0..case.lines {
+        text.resize(text.len() + case.bytes, case.byte)?;
         text.push(b'\n')?;
     }
     text.extend_from_slice(case.end)?;
@@ -234,8 +127,8 @@ fn text_of(heap: Global, case: &Filled) -> Result<Vec<u8>, AllocError>
 fn main(rt: HostRuntime) -> anyhow::Result<()> {
     let heap = rt.alloc();
     let mut texts = Vec::new(heap);
-    for case in CASES.iter() {
-        texts.push((case.name, case.text.to_vec(heap)?))?;
+    for (name, text) in CASES.iter() {
+        texts.push((*name, text.to_vec(heap)?))?;
     }
     for case in FILLED.iter() {
         texts.push((case.name, text_of(heap, case)?))?;
@@ -245,7 +138,7 @@ fn main(rt: HostRuntime) -> anyhow::Result<()> {
         match listing(heap, text.as_slice()) {
             Ok(out) => rt.stdout().write_all(out.as_slice())?,
             Err(refusal) => {
-                let fault = refusal.fault();
+                let fault = Fault::from(refusal);
                 println!(rt; "{fault}")?
             }
         }

@@ -1,34 +1,69 @@
 -- Where a comment begins: one byte after another.
-use Rattle.std.proofs.Common.{◌≡◌, ℕ, ◌+◌, ◌-◌, ◌<◌, ◌≤◌, true, false, List, [], ◌∷◌, length, take, drop, codes, sym, ap, ◌∙◌, arith, length-drop, length-take-le}
-use Rattle.std.proofs.lemmas.List.{take_rest, drop-drop, drop_all}
-use Rattle.std.proofs.lemmas.Bool.{cond-true, cond-false, cond_both}
+use Rattle.std.proofs.Common.{Bool, cond, not, nat_lt, unwrap_or, Some, None, ◌≡◌, ℕ, ◌+◌, ◌<◌, ◌≤◌, List, [], ◌∷◌, length, take, drop, codes, refl, sym, ap, subst, ◌∙◌, arith, length-take-le}
+use Rattle.std.proofs.lemmas.Bool.{cond-true, cond-false, cond_both, ltb-true, ltb-false}
+use Rattle.std.proofs.lemmas.Bool.Decides.{nat_tests}
+use Rattle.std.proofs.lemmas.Iterator.{YieldsList}
+use Rattle.std.proofs.lemmas.Iterator.Splits.{YieldsList-from_shown_while}
+use Rattle.std.specs.Slice.Iter.{windows_size, windows_rest, windows_steps}
+use Rattle.std.specs.Str.{bytes_eq}
+use Rattle.std.specs.List.{position_or_len}
 use Rattle.words.specs.Reading.{code_length, code_of}
 use Rattle.words.specs.Scan.{begins}
 
-here : (t : List ℕ) → begins (codes "--") t ≡ true → code_length t ≡ 0
-here [] e = cc
-here (b ∷ t) e = cond-true _ _ _ e
+-- the windows of two bytes
+abbrev pub pairs : List ℕ → List (List ℕ)
+pairs [] = []
+pairs (a ∷ []) = []
+pairs (a ∷ (b ∷ s)) = (a ∷ (b ∷ [])) ∷ pairs (b ∷ s)
 
-further : (t : List ℕ) → 0 < length t → begins (codes "--") t ≡ false → code_length t ≡ 1 + code_length (drop 1 t)
-further [] some e = absurd (omega arith)
-further (b ∷ t) some e = cond-false _ _ _ e
+few : (s : List ℕ) → length s < 2 → length (pairs s) ≡ 0
+few [] h = omega arith
+few (a ∷ []) h = omega arith
+few (a ∷ (b ∷ s)) h = absurd (omega arith)
 
--- the bytes from i on, as the code has them
-abbrev from : List ℕ → ℕ → List ℕ
-from s i = take (length s - i) (drop i s)
+more : (s : List ℕ) → 2 ≤ length s → pairs s ≡ take 2 s ∷ pairs (drop 1 s)
+more [] h = absurd (omega arith)
+more (a ∷ []) h = absurd (omega arith)
+more (a ∷ (b ∷ s)) h = refl
 
-pub found : (s : List ℕ) (i : ℕ) → code_length s ≡ i + code_length (drop i s) → begins (codes "--") (from s i) ≡ true → i ≡ code_length s
-found s i inv e = let none = here (drop i s) (ap (begins (codes "--")) (sym (take_rest s i)) ∙ e) in omega (arith, inv, none)
+-- what `windows(2)` gives
+pub pairs_shown : (s : List ℕ) (w : _) → windows_rest w ≡ s → windows_size w ≡ 2 → YieldsList windows_steps (λ x. x.now) w (pairs s)
+pairs_shown s w rest size =
+    subst (λ l. YieldsList windows_steps (λ x. x.now) w (pairs l)) rest
+    (YieldsList-from_shown_while windows_steps (λ x. x.now) (λ t. pairs (windows_rest t)) (λ t. windows_size t ≡ 2)
+    (λ s t size none. few (windows_rest s) (omega arith))
+    (λ s x t size some. (omega arith, more (windows_rest s) (omega arith) ∙ cc))
+    w size)
 
-pub passed : (s : List ℕ) (i : ℕ) → i < length s → code_length s ≡ i + code_length (drop i s) → begins (codes "--") (from s i) ≡ false → code_length s ≡ (i + 1) + code_length (drop (i + 1) s)
-passed s i within inv e =
-    let long = length-drop i s in
-    let one = further (drop i s) (omega arith) (ap (begins (codes "--")) (sym (take_rest s i)) ∙ e) in
-    let on = ap code_length (drop-drop 1 i s) in
-    omega (arith, inv, one, on)
+-- two bytes that begin a comment
+abbrev pub dashes : List ℕ → Bool
+dashes p = bytes_eq p (codes "--")
 
-pub no_comment : (s : List ℕ) (i : ℕ) → length s ≤ i → i ≤ length s → code_length s ≡ i + code_length (drop i s) → length s ≡ code_length s
-no_comment s i end within inv = let none = ap code_length (drop_all i s end) in omega (arith, inv, none)
+-- the place of the first pair of dashes
+abbrev dashed : List ℕ → ℕ
+dashed s = position_or_len dashes (pairs s)
+
+-- that place is where the code ends
+record Ends (s : List ℕ) (n at len : ℕ) : Type 0 where
+  pub within : at < len → n ≡ at
+  pub none : len ≤ at → n ≡ length s
+
+one_dash : (a : ℕ) → code_length (a ∷ []) ≡ 1
+one_dash a = grind (arith, nat_tests)
+
+ends : (s : List ℕ) → Ends s (code_length s) (dashed s) (length (pairs s))
+ends [] = record { within = λ h. absurd (omega arith); none = λ _. refl }
+ends (a ∷ []) = record { within = λ h. absurd (omega arith); none = λ _. one_dash a }
+ends (a ∷ (b ∷ s)) =
+    let rest = ends (b ∷ s) in
+    cond_both (begins (codes "--") (a ∷ (b ∷ s))) 0 (1 + code_length (b ∷ s)) (λ n. Ends (a ∷ (b ∷ s)) n (dashed (a ∷ (b ∷ s))) (length (pairs (a ∷ (b ∷ s)))))
+    (λ e. let here : dashed (a ∷ (b ∷ s)) ≡ 0 = cond-false _ _ _ (ap not e) in record { within = λ _. sym here; none = λ h. absurd (omega arith) })
+    (λ e. let on : dashed (a ∷ (b ∷ s)) ≡ 1 + dashed (b ∷ s) = cond-true _ _ _ (ap not e) in record { within = λ h. omega (arith, rest.within (omega arith)); none = λ h. omega (arith, rest.none (omega arith)) })
+
+pub comment_at : (s : List ℕ) → unwrap_or (cond (nat_lt (dashed s) (length (pairs s))) (Some (dashed s)) None) (length s) ≡ code_length s
+comment_at s =
+    cond_both (nat_lt (dashed s) (length (pairs s))) (Some (dashed s)) None (λ o. unwrap_or o (length s) ≡ code_length s)
+    (λ e. sym ((ends s).within (ltb-true _ _ e))) (λ e. sym ((ends s).none (ltb-false _ _ e)))
 
 pub code_within : (s : List ℕ) → code_length s ≤ length s
 code_within [] = omega arith

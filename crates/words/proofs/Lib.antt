@@ -3,10 +3,10 @@ pub mod Cuts
 pub mod Divided
 pub mod Fronts
 pub mod Judged
-pub mod Keywords
 pub mod Lexemes
 pub mod Limited
 pub mod Numbers
+pub mod Pieces
 pub mod Readings
 pub mod Signs
 pub mod Sizes

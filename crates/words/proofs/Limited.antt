@@ -21,11 +21,11 @@ divides_so (b ∷ s) =
     (λ is. onto_divides b s (divided s) is (divides_so s))
     (λ is. more [] s (ap (λ c. c ∷ s) (eqb-true b 10 (not-false (eqb b 10) is))) tt (divides_so s))
 
-line_ends : (line rest : List ℕ) → Every in_line line → divided (line ++ (10 ∷ rest)) ≡ line ∷ divided rest
+pub line_ends : (line rest : List ℕ) → Every in_line line → divided (line ++ (10 ∷ rest)) ≡ line ∷ divided rest
 line_ends [] rest all = refl
 line_ends (b ∷ line) rest all = cond-true _ _ _ all.0 ∙ ap (onto b) (line_ends line rest all.1)
 
-line_whole : (b : ℕ) (line : List ℕ) → Every in_line (b ∷ line) → divided (b ∷ line) ≡ (b ∷ line) ∷ []
+pub line_whole : (b : ℕ) (line : List ℕ) → Every in_line (b ∷ line) → divided (b ∷ line) ≡ (b ∷ line) ∷ []
 line_whole b [] all = cond-true _ _ _ all.0
 line_whole b (c ∷ line) all = cond-true _ _ _ all.0 ∙ ap (onto b) (line_whole c line all.1)
 

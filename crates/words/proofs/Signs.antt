@@ -1,8 +1,7 @@
 -- A sign that is found at the front of some bytes lies within them.
-use Rattle.std.proofs.Common.{◌≡◌, ℕ, ◌<◌, ◌≤◌, true, eqb, List, [], ◌∷◌, length, Some, None, Option, sym, subst, arith}
+use Rattle.std.proofs.Common.{◌≡◌, ℕ, ◌<◌, ◌≤◌, true, eqb, List, [], ◌∷◌, length, Some, None, Option, arith}
 use Rattle.std.proofs.lemmas.Bool.{cond_both, and_parts}
 use Rattle.words.specs.Scan.{begins, opening, signs, sign_of}
-use Rattle.words.specs.declared.vocabulary.Sign.{Sign}
 
 -- some bytes, and no more than there are
 abbrev pub Within : ℕ → List ℕ → Type 0
@@ -30,6 +29,3 @@ pub sign_fits : (s : List ℕ) → Fits (sign_of s) s
 sign_fits s =
     opening_fits signs s
     (omega arith, (omega arith, (omega arith, (omega arith, (omega arith, (omega arith, (omega arith, (omega arith, (omega arith, (omega arith, (omega arith, (omega arith, (omega arith, (omega arith, (omega arith, (omega arith, (omega arith, (omega arith, (omega arith, tt)))))))))))))))))))
-
-pub sign_within : (s : List ℕ) (m : Sign) (n : ℕ) → Some (m, n) ≡ sign_of s → Within n s
-sign_within s m n e = let P : Option (Sign × ℕ) → Type 0 = λ o. Fits o s in subst P (sym e) (sign_fits s)

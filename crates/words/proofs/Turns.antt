@@ -1,6 +1,6 @@
 -- The loop that reads the words of a line: one space, or one word, after another.
-use Rattle.std.proofs.Common.{◌≡◌, ℕ, zero, suc, ◌+◌, ◌-◌, ◌<◌, ◌≤◌, List, [], ◌∷◌, ◌++◌, length, get_or, take, drop, Ok, Err, Result, sym, refl, ap, ◌∙◌, subst, add-zero, arith, length-drop, get_or-drop}
-use Rattle.std.proofs.lemmas.List.{take_rest, drop-drop, drop_all}
+use Rattle.std.proofs.Common.{◌≡◌, ℕ, zero, suc, ◌+◌, ◌-◌, ◌<◌, ◌≤◌, List, [], ◌∷◌, ◌++◌, length, get_or, take, drop, Ok, Err, Result, sym, refl, ap, ◌∙◌, add-zero, arith, length-drop}
+use Rattle.std.proofs.lemmas.List.{take_rest, nil_from_length}
 use Rattle.std.proofs.lemmas.Bool.{cond-true, cond-false, eq-eqb, ne_eqb}
 use Rattle.words.specs.Reading.{before, onward, words_from, words_of}
 use Rattle.words.specs.Scan.{word_at}
@@ -51,54 +51,40 @@ pub all_done : (ts : List Token) → before_all ts (Ok []) ≡ Ok ts
 all_done [] = refl
 all_done (u ∷ ts) = ap (before u) (all_done ts)
 
--- the line from `at` on, as the code has it
-abbrev pub from : List ℕ → ℕ → List ℕ
-from s at = take (length s - at) (drop at s)
+-- what the loop keeps: the n-th line s is the words ts, of which there are k, and then rest
+pub record Sofar (n : ℕ) (s rest : List ℕ) (k : ℕ) (ts : List Token) : Type 0 where
+  pub few : k + length rest ≤ length s
+  pub split : words_of n s ≡ before_all ts (words_from n 0 (length s - length rest + 1) rest)
 
--- what the loop keeps: ts are the words before `at`, counted from 0
-pub record Sofar (n : ℕ) (s : List ℕ) (at : ℕ) (ts : List Token) : Type 0 where
-  pub within : at ≤ length s
-  pub split : words_of n s ≡ before_all ts (words_from n 0 (at + 1) (drop at s))
+module _ {n k : ℕ} {s rest : List ℕ} {ts : List Token} (some : 0 < length rest) (sofar : Sofar n s rest k ts) where
+  -- the place of the next word
+  abbrev place : ℕ
+  place = length s - length rest + 1
 
-module _ {n : ℕ} {s : List ℕ} {at : ℕ} {ts : List Token} (within : at < length s) (sofar : Sofar n s at ts) where
-  some : 0 < length (drop at s)
-  some = let long = length-drop at s in omega (arith, long)
+  pub fault_turn : (e : WordFault) → (get_or rest 0 0 ≡ 32 → ⊥) → Err e ≡ word_at n place rest → words_of n s ≡ Err e
+  fault_turn e ne first = sofar.split ∙ ap (before_all ts) (at_fault n place rest e some ne (sym first)) ∙ all_fault ts e
 
-  head_is : get_or (drop at s) 0 0 ≡ get_or s at 0
-  head_is = get_or-drop at s 0 0 ∙ ap (λ k. get_or s k 0) (add-zero at)
+  pub word_size : (t : Token) → Ok t ≡ word_at n place rest → Within (size t) rest
+  word_size t first = word_within n place rest t some (sym first)
 
-  pub space_turn : get_or s at 0 ≡ 32 → Sofar n s (at + 1) ts
-  space_turn e = record {
-    within = omega arith;
-    split = sofar.split ∙ ap (before_all ts) (at_space n (at + 1) (drop at s) some (head_is ∙ e) ∙ ap (words_from n 0 (at + 1 + 1)) (drop-drop 1 at s));
-  }
-
-  pub fault_turn : (e : WordFault) → (get_or s at 0 ≡ 32 → ⊥) → Err e ≡ word_at n (at + 1) (from s at) → words_of n s ≡ Err e
-  fault_turn e ne first =
-      sofar.split
-      ∙ ap (before_all ts) (at_fault n (at + 1) (drop at s) e some (λ q. ne (sym head_is ∙ q)) (ap (word_at n (at + 1)) (sym (take_rest s at)) ∙ sym first))
-      ∙ all_fault ts e
-
-  pub word_size : (t : Token) → Ok t ≡ word_at n (at + 1) (from s at) → Within (size t) (drop at s)
-  word_size t first = word_within n (at + 1) (drop at s) t some (ap (word_at n (at + 1)) (sym (take_rest s at)) ∙ sym first)
-
-  pub word_turn : (t : Token) → (get_or s at 0 ≡ 32 → ⊥) → Ok t ≡ word_at n (at + 1) (from s at) → Sofar n s (at + size t) (ts ++ t ∷ [])
-  word_turn t ne first =
+  passed : (t : Token) → (get_or rest 0 0 ≡ 32 → ⊥) → Ok t ≡ word_at n place rest → Sofar n s (drop (size t) rest) (k + 1) (ts ++ t ∷ [])
+  passed t ne first =
       let sized = word_size t first in
-      let long = length-drop at s in
-      let place : at + 1 + size t ≡ at + size t + 1 = omega arith in
-      let is = ap (word_at n (at + 1)) (sym (take_rest s at)) ∙ sym first in
+      let left = length-drop (size t) rest in
+      let few = sofar.few in
+      let on : place + size t ≡ length s - length (drop (size t) rest) + 1 = omega arith in
       record {
-        within = omega (arith, long, sized.1);
+        few = omega arith;
         split =
             sofar.split
-            ∙ ap (before_all ts) (at_word n (at + 1) (drop at s) t (λ q. ne (sym head_is ∙ q)) is sized ∙ ap (λ l. before t (words_from n 0 (at + 1 + size t) l)) (drop-drop (size t) at s) ∙ ap (λ j. before t (words_from n 0 j (drop (at + size t) s))) place)
+            ∙ ap (before_all ts) (at_word n place rest t ne (sym first) sized ∙ ap (λ j. before t (words_from n 0 j (drop (size t) rest))) on)
             ∙ sym (all_more ts t _);
       }
 
-pub line_done : {n : ℕ} {s : List ℕ} {at : ℕ} {ts : List Token} → length s ≤ at → Sofar n s at ts → words_of n s ≡ Ok ts
-line_done {n} {s} {at} {ts} end sofar = sofar.split ∙ ap (λ l. before_all ts (words_from n 0 (at + 1) l)) (drop_all at s end) ∙ all_done ts
+  -- the same at the values that the code has
+  pub word_turn : (t : Token) (m : ℕ) {us : List Token} → m ≡ size t → us ≡ ts ++ t ∷ [] → (get_or rest 0 0 ≡ 32 → ⊥) → Ok t ≡ word_at n place rest
+      → Sofar n s (take (length rest - m) (drop m rest)) (k + 1) us
+  word_turn t m long same ne first = rw (take_rest rest m, long, same) (passed t ne first)
 
--- the same at the values that the code has
-pub turned_to : {n : ℕ} {s : List ℕ} (at k m : ℕ) {ts us : List Token} → Sofar n s (at + k) ts → m ≡ k → us ≡ ts → Sofar n s (at + m) us
-turned_to {n} {s} at k m {ts} {us} h e f = subst (λ j. Sofar n s (at + j) us) (sym e) (subst (Sofar n s (at + k)) (sym f) h)
+pub line_done : {n k : ℕ} {s rest : List ℕ} {ts : List Token} → length rest < 1 → Sofar n s rest k ts → words_of n s ≡ Ok ts
+line_done {n} {k} {s} {rest} {ts} end sofar = sofar.split ∙ ap (λ l. before_all ts (words_from n 0 (length s - length rest + 1) l)) (nil_from_length rest (omega arith)) ∙ all_done ts

@@ -1,7 +1,7 @@
 -- The classes of a byte.
 use Rattle.std.specs.Prelude.{ℕ, Bool, not, ◌&&◌, ◌||◌, ◌==◌, nat_le}
 use Rattle.words.specs.declared.classes.Class.{Class}
-use Rattle.words.specs.declared.classes.Class.TheVariants.{InLine, Printable, Space, Letter, Digit, InName}
+use Rattle.words.specs.declared.classes.Class.TheVariants.{Printable, Space, Letter, Digit, InName}
 
 -- any byte but 10, which ends a line
 abbrev pub in_line : ℕ → Bool
@@ -29,7 +29,6 @@ in_name b = letter b || digit b || b == 46
 
 -- the bytes of a class
 abbrev pub belongs : Class → ℕ → Bool
-belongs InLine = in_line
 belongs Printable = printable
 belongs Space = space
 belongs Letter = letter

@@ -1,5 +1,6 @@
 -- The word that stands at the front of some bytes, as a computation. The rules that it obeys are in Spelling.
-use Rattle.std.specs.Prelude.{ℕ, ◌+◌, ◌-◌, ◌*◌, Bool, true, false, cond, ◌&&◌, List, [], ◌∷◌, length, take, ℤ, pos, Some, None, Ok, Err, fold, Option, Result, ◌==◌, nat_lt, slice_index}
+use Rattle.std.specs.Prelude.{map, ℕ, ◌+◌, ◌-◌, ◌*◌, Bool, true, false, cond, ◌&&◌, List, [], ◌∷◌, length, take, ℤ, pos, Some, None, Ok, Err, fold, Option, Result, ◌==◌, nat_lt, slice_index}
+use Rattle.std.specs.Borrow.{Bor}
 use Rattle.std.specs.List.{prefix_len}
 use Rattle.std.specs.Str.{bytes_eq}
 use Rattle.words.specs.Bytes.{letter, digit, in_name}
@@ -7,7 +8,6 @@ use Rattle.words.specs.Token.{Token, name, keyword, number, sign}
 use Rattle.words.specs.Vocabulary.{keyword_text, sign_text}
 use Rattle.words.specs.declared.refusal.WordFault.{WordFault}
 use Rattle.words.specs.declared.refusal.WordFault.TheVariants.{NameTooLong, NumberTooBig, UnknownSign}
-use Rattle.words.specs.declared.scan.Reserved.{Reserved}
 use Rattle.words.specs.declared.vocabulary.Keyword.{Keyword}
 use Rattle.words.specs.declared.vocabulary.Keyword.TheVariants as key
 use Rattle.words.specs.declared.vocabulary.Sign.{Sign}
@@ -19,9 +19,8 @@ listed [] s = None
 listed (e ∷ es) s = cond (bytes_eq e.0 s) (Some e.1) (listed es s)
 
 -- the code's table of keywords
-abbrev pub rows : List Reserved → List (List ℕ × Keyword)
-rows [] = []
-rows (r ∷ rs) = (r.text.now, r.keyword) ∷ rows rs
+abbrev pub rows : List (Bor (List ℕ) × Keyword) → List (List ℕ × Keyword)
+rows t = map (λ r. (r.0.now, r.1)) t
 
 abbrev reserved : Keyword → List ℕ × Keyword
 reserved k = (keyword_text k, k)

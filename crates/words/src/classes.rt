@@ -3,10 +3,9 @@ ghost use Rattle.std.specs.Prelude.{◌≡◌};
 ghost use Rattle.std.specs.List.{prefix_len};
 ghost use Rattle.words.specs.Bytes.{belongs};
 
-#[derive(Clone, Copy)]
+// A value and no closure, so that `front` is one function and its contract names the class.
+#[derive(Clone, Copy, Debug, PartialEq, Eq)]
 pub enum Class {
-    // what does not end a line
-    InLine,
     // what a line may hold
     Printable,
     Space,
@@ -22,12 +21,11 @@ impl Class {
         ensures { result ≡ belongs self b }
     {
         match self {
-            Class::InLine => b != b'\n',
             Class::Printable => matches!(b, b' '..=b'~'),
             Class::Space => b == b' ',
-            Class::Letter => matches!(b, b'A'..=b'Z' | b'a'..=b'z'),
-            Class::Digit => matches!(b, b'0'..=b'9'),
-            Class::InName => matches!(b, b'A'..=b'Z' | b'a'..=b'z' | b'0'..=b'9' | b'.'),
+            Class::Letter => b.is_ascii_alphabetic(),
+            Class::Digit => b.is_ascii_digit(),
+            Class::InName => b.is_ascii_alphanumeric() || b == b'.',
         }
     }
 
@@ -35,11 +33,6 @@ impl Class {
     pub fn front(self, s: &[u8]) -> usize
         ensures { result ≡ prefix_len (belongs self) s.now }
     {
-        for (i, b) in s.iter().enumerate() {
-            if !self.has(*b) {
-                return i;
-            }
-        }
-        s.len()
+        s.iter().take_while(|b| self.has(**b)).count()
     }
 }

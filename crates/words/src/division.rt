@@ -1,30 +1,15 @@
 // The lines of a text.
-ghost use Rattle.std.specs.Prelude.{◌≡◌, ◌<◌, ◌≤◌, ◌∷◌, length, IfOk, vec_len};
-ghost use Rattle.words.specs.Division.{divided, lines_of, division_of};
+ghost use Rattle.std.specs.Prelude.{◌≤◌, IfOk, vec_len};
+ghost use Rattle.words.specs.Division.{lines_of, division_of};
 ghost use Rattle.words.specs.Limits.{RightLines};
 ghost use Rattle.words.specs.Reading.{UnlessMemory};
 
-use crate::classes::Class;
 use crate::reading::{Line, TEXT_BYTES};
 use crate::refusal::WordFault;
 use std::alloc::Global;
 
 // The most lines that a text may have.
 const TEXT_LINES: usize = 256;
-
-// The first line of a text, without its end, and the text after it.
-fn first_line(text: &[u8]) -> (&[u8], &[u8])
-    requires { 0 < length text.now }
-    ensures divides { divided text.now ≡ result.0.now ∷ divided result.1.now }
-    ensures shorter { length result.1.now < length text.now }
-{
-    let (line, rest) = text.split_at(Class::InLine.front(text));
-    if rest.is_empty() {
-        (line, rest)
-    } else {
-        (line, &rest[1..])
-    }
-}
 
 // The lines of a text, numbered from 1, or a refusal where it is over a limit.
 pub fn split<'a>(heap: Global, text: &'a [u8]) -> Result<Vec<Line<'a>>, WordFault>
@@ -36,18 +21,15 @@ pub fn split<'a>(heap: Global, text: &'a [u8]) -> Result<Vec<Line<'a>>, WordFaul
         return Err(WordFault::TextTooLong);
     }
     let mut lines = Vec::new(heap);
-    let mut rest = text;
-    while rest.len() > 0 {
+    for piece in text.split_inclusive(|b| *b == b'\n') {
         let count = lines.len();
         if count == TEXT_LINES {
             return Err(WordFault::TooManyLines);
         }
-        let (bytes, after) = first_line(rest);
         lines.push(Line {
             number: (count + 1) as u16,
-            bytes,
+            bytes: piece.strip_suffix(b"\n").unwrap_or(piece),
         })?;
-        rest = after;
     }
     Ok(lines)
 }

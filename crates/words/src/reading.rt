@@ -1,7 +1,6 @@
 // The words of a line.
-ghost use Rattle.std.specs.Prelude.{◌≡◌, ◌≤◌, length, IfOk, vec_len, codes};
-ghost use Rattle.words.specs.Reading.{code_length, code_of, words_of, tokens_of, line_of, reading_of, UnlessMemory};
-ghost use Rattle.words.specs.Scan.{begins};
+ghost use Rattle.std.specs.Prelude.{◌≡◌, ◌≤◌, length, IfOk, vec_len};
+ghost use Rattle.words.specs.Reading.{code_of, words_of, tokens_of, line_of, reading_of, UnlessMemory};
 ghost use Rattle.words.specs.Spelling.{Right};
 
 use crate::classes::Class;
@@ -33,29 +32,15 @@ pub struct Row<'a> {
     pub words: Vec<Word<'a>>,
 }
 
-fn starts_comment(s: &[u8]) -> bool
-    ensures { result ≡ begins (codes "--") s.now }
-{
-    matches!(s, [b'-', b'-', ..])
-}
-
-fn code_length(bytes: &[u8]) -> usize
-    ensures { result ≡ code_length bytes.now }
-{
-    for i in 0..bytes.len() {
-        if starts_comment(&bytes[i..]) {
-            return i;
-        }
-    }
-    bytes.len()
-}
-
-// What stands before the comment.
+// What stands before the comment, which the first `--` begins.
 fn code_of(bytes: &[u8]) -> &[u8]
     ensures { result.now ≡ code_of bytes.now }
 {
-    let (code, _) = bytes.split_at(code_length(bytes));
-    code
+    let length = bytes
+        .windows(2)
+        .position(|pair| pair == b"--".as_slice())
+        .unwrap_or(bytes.len());
+    &bytes[..length]
 }
 
 // The words of a line's code.
@@ -65,13 +50,14 @@ fn words_of<'a>(heap: Global, code: &'a [u8], line: u16) -> Result<Vec<Word<'a>>
     ensures few { IfOk result (λ v. vec_len v ≤ length code.now) }
 {
     let mut words = Vec::new(heap);
-    let mut at = 0;
-    while at < code.len() {
-        if code[at] == b' ' {
-            at += 1;
+    let mut rest = code;
+    while let [first, after @ ..] = rest {
+        if *first == b' ' {
+            rest = after;
         } else {
-            let word = word_at(&code[at..], line, (at + 1) as u16)?;
-            at += word.text().len();
+            let place = code.len() - rest.len() + 1;
+            let word = word_at(rest, line, place as u16)?;
+            rest = &rest[word.text().len()..];
             words.push(word)?;
         }
     }

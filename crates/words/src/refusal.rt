@@ -6,7 +6,7 @@ ghost use Rattle.words.specs.declared.refusal.WordFault.TheVariants.{Memory};
 use faults::{Fault, Layer};
 use std::alloc::{AllocError, AllocFailed};
 
-#[derive(Clone, Copy)]
+#[derive(Clone, Copy, Debug, PartialEq, Eq)]
 pub enum WordFault {
     // the text has more bytes than a text may have
     TextTooLong,
@@ -25,12 +25,12 @@ pub enum WordFault {
     Memory,
 }
 
-impl WordFault {
-    // The number, layer and place by which the refusal is told.
-    pub fn fault(self) -> Fault
-        ensures { result ≡ fault_of self }
-    {
-        let (number, layer, line, byte) = match self {
+// The number, layer and place by which a refusal is told.
+impl From<WordFault> for Fault {
+    ghost from_gives = { λ e r. r ≡ fault_of e };
+
+    fn from(e: WordFault) -> Fault {
+        let (number, layer, line, byte) = match e {
             WordFault::TextTooLong | WordFault::TooManyLines => (1, Layer::Words, 0, 0),
             WordFault::ByteOutside { line, byte } => (2, Layer::Words, line, byte),
             WordFault::LineTooLong { line } => (3, Layer::Words, line, 0),
@@ -49,6 +49,7 @@ impl WordFault {
     }
 }
 
+// Want of memory is one more case of this enum by a rule of the project, and `?` asks for both of its conversions.
 impl From<AllocError> for WordFault {
     ghost from_gives = { λ _ r. r ≡ Memory };
 

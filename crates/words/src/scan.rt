@@ -9,123 +9,44 @@ use crate::classes::Class;
 use crate::refusal::WordFault;
 use crate::vocabulary::{Keyword, Sign, Word};
 
-// A keyword and its bytes.
-#[derive(Clone, Copy)]
-pub struct Reserved {
-    text: &'static [u8],
-    keyword: Keyword,
-}
-
-static KEYWORDS: [Reserved; 23] = [
-    Reserved {
-        text: b"AFTER",
-        keyword: Keyword::After,
-    },
-    Reserved {
-        text: b"ALT",
-        keyword: Keyword::Alt,
-    },
-    Reserved {
-        text: b"AND",
-        keyword: Keyword::And,
-    },
-    Reserved {
-        text: b"AT",
-        keyword: Keyword::At,
-    },
-    Reserved {
-        text: b"CHAN",
-        keyword: Keyword::Chan,
-    },
-    Reserved {
-        text: b"FALSE",
-        keyword: Keyword::False,
-    },
-    Reserved {
-        text: b"IF",
-        keyword: Keyword::If,
-    },
-    Reserved {
-        text: b"INT",
-        keyword: Keyword::Int,
-    },
-    Reserved {
-        text: b"MINUS",
-        keyword: Keyword::Minus,
-    },
-    Reserved {
-        text: b"NOT",
-        keyword: Keyword::Not,
-    },
-    Reserved {
-        text: b"OF",
-        keyword: Keyword::Of,
-    },
-    Reserved {
-        text: b"OR",
-        keyword: Keyword::Or,
-    },
-    Reserved {
-        text: b"PAR",
-        keyword: Keyword::Par,
-    },
-    Reserved {
-        text: b"PLACE",
-        keyword: Keyword::Place,
-    },
-    Reserved {
-        text: b"PLUS",
-        keyword: Keyword::Plus,
-    },
-    Reserved {
-        text: b"PRI",
-        keyword: Keyword::Pri,
-    },
-    Reserved {
-        text: b"SEQ",
-        keyword: Keyword::Seq,
-    },
-    Reserved {
-        text: b"SKIP",
-        keyword: Keyword::Skip,
-    },
-    Reserved {
-        text: b"STOP",
-        keyword: Keyword::Stop,
-    },
-    Reserved {
-        text: b"TIMER",
-        keyword: Keyword::Timer,
-    },
-    Reserved {
-        text: b"TIMES",
-        keyword: Keyword::Times,
-    },
-    Reserved {
-        text: b"TRUE",
-        keyword: Keyword::True,
-    },
-    Reserved {
-        text: b"WHILE",
-        keyword: Keyword::While,
-    },
+// The keywords, each with its bytes.
+static KEYWORDS: [(&[u8], Keyword); 23] = [
+    (b"AFTER", Keyword::After),
+    (b"ALT", Keyword::Alt),
+    (b"AND", Keyword::And),
+    (b"AT", Keyword::At),
+    (b"CHAN", Keyword::Chan),
+    (b"FALSE", Keyword::False),
+    (b"IF", Keyword::If),
+    (b"INT", Keyword::Int),
+    (b"MINUS", Keyword::Minus),
+    (b"NOT", Keyword::Not),
+    (b"OF", Keyword::Of),
+    (b"OR", Keyword::Or),
+    (b"PAR", Keyword::Par),
+    (b"PLACE", Keyword::Place),
+    (b"PLUS", Keyword::Plus),
+    (b"PRI", Keyword::Pri),
+    (b"SEQ", Keyword::Seq),
+    (b"SKIP", Keyword::Skip),
+    (b"STOP", Keyword::Stop),
+    (b"TIMER", Keyword::Timer),
+    (b"TIMES", Keyword::Times),
+    (b"TRUE", Keyword::True),
+    (b"WHILE", Keyword::While),
 ];
 
 // The longest name in occam that we take, in bytes.
 const NAME_BYTES: usize = 16;
 
-// The largest number that INT has.
-const LARGEST: u64 = 2147483647;
-
-fn listed_in(table: &[Reserved], name: &[u8]) -> Option<Keyword>
+// What a table says of a name: any table, since the proof goes by its rows.
+fn listed_in(table: &[(&[u8], Keyword)], name: &[u8]) -> Option<Keyword>
     ensures { result ≡ listed (rows table.now) name.now }
 {
-    for row in table {
-        if row.text == name {
-            return Some(row.keyword);
-        }
-    }
-    None
+    table
+        .iter()
+        .find(|(text, _)| *text == name)
+        .map(|(_, keyword)| *keyword)
 }
 
 fn keyword_of(name: &[u8]) -> Option<Keyword>
@@ -166,25 +87,24 @@ fn sign_at(s: &[u8]) -> Option<(Sign, usize)>
 fn number_of(digits: &[u8]) -> Option<i32>
     ensures { result ≡ number_of digits.now }
 {
-    let mut n: u64 = 0;
+    let mut n = 0u32;
     for d in digits {
-        n = n * 10 + u64::from(d.saturating_sub(b'0'));
-        if n > LARGEST {
-            return None;
-        }
+        n = n
+            .checked_mul(10)?
+            .checked_add(u32::from(d.saturating_sub(b'0')))?;
     }
-    Some(n as i32)
+    i32::try_from(n).ok()
 }
 
 // The longest front of `s` that is of the class.
 fn run(class: Class, s: &[u8]) -> &[u8]
     ensures { result.now ≡ take (prefix_len (belongs class) s.now) s.now }
 {
-    let (part, _) = s.split_at(class.front(s));
-    part
+    &s[..class.front(s)]
 }
 
-// The word at the front of `rest`, which begins at `byte` of `line`.
+// The word at the front of `rest`, which begins at `byte` of `line`. A place stays two numbers, as a fault tells it:
+// `fault_of` and the rules speak of the line and the byte each by itself.
 pub fn word_at<'a>(rest: &'a [u8], line: u16, byte: u16) -> Result<Word<'a>, WordFault>
     requires { 0 < length rest.now }
     ensures { token_or result ≡ word_at line byte rest.now }
@@ -194,27 +114,24 @@ pub fn word_at<'a>(rest: &'a [u8], line: u16, byte: u16) -> Result<Word<'a>, Wor
         if text.len() > NAME_BYTES {
             return Err(WordFault::NameTooLong { line, byte });
         }
-        match keyword_of(text) {
-            Some(keyword) => Ok(Word::Keyword {
+        Ok(match keyword_of(text) {
+            Some(keyword) => Word::Keyword {
                 keyword,
                 text,
                 byte,
-            }),
-            None => Ok(Word::Name { text, byte }),
-        }
+            },
+            None => Word::Name { text, byte },
+        })
     } else if Class::Digit.has(rest[0]) {
         let text = run(Class::Digit, rest);
-        match number_of(text) {
-            Some(value) => Ok(Word::Number { value, text, byte }),
-            None => Err(WordFault::NumberTooBig { line, byte }),
-        }
+        let value = number_of(text).ok_or(WordFault::NumberTooBig { line, byte })?;
+        Ok(Word::Number { value, text, byte })
     } else {
-        match sign_at(rest) {
-            Some((sign, length)) => {
-                let (text, _) = rest.split_at(length);
-                Ok(Word::Sign { sign, text, byte })
-            }
-            None => Err(WordFault::UnknownSign { line, byte }),
-        }
+        let (sign, length) = sign_at(rest).ok_or(WordFault::UnknownSign { line, byte })?;
+        Ok(Word::Sign {
+            sign,
+            text: &rest[..length],
+            byte,
+        })
     }
 }

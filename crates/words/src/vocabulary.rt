@@ -2,7 +2,7 @@
 ghost use Rattle.std.specs.Prelude.{◌≡◌};
 ghost use Rattle.words.specs.Token.{token, text_of, place_of};
 
-#[derive(Clone, Copy)]
+#[derive(Clone, Copy, Debug, PartialEq, Eq)]
 pub enum Keyword {
     After,
     Alt,
@@ -29,7 +29,7 @@ pub enum Keyword {
     While,
 }
 
-#[derive(Clone, Copy)]
+#[derive(Clone, Copy, Debug, PartialEq, Eq)]
 pub enum Sign {
     Becomes,
     Differ,
@@ -53,6 +53,7 @@ pub enum Sign {
 }
 
 // A word of a line: the part of the line that it was read from, and the place of its first byte, counted from 1.
+// By a rule of the project each kind of word is a case with its own part and place, which `text` and `byte` read of any.
 #[derive(Clone, Copy)]
 pub enum Word<'a> {
     Name {

@@ -1,36 +1,38 @@
-use Rattle.std.proofs.Common.{map, length, is_ok, sym, refl, ap, ◌∙◌, inr, arith}
-use Rattle.std.proofs.lemmas.List.{map_push}
+use Rattle.std.proofs.Common.{map, length, is_ok, length-drop, refl, sym, ap, ◌∙◌, inr, arith}
+use Rattle.std.proofs.lemmas.List.{map_push, take_rest}
 use Rattle.std.proofs.lemmas.Result.{err_from_is_err_and}
 use Rattle.std.proofs.ResultArms.{chosen}
 use Rattle.words.specs.Token.{token}
-use Rattle.words.proofs.Turns.{space_turn, fault_turn, word_size, word_turn, line_done, turned_to}
+use Rattle.words.proofs.Turns.{fault_turn, word_size, word_turn, line_done}
 use Rattle.words.proofs.reading.words_of.Goals as goal
 
-pub loop-at-preserved-then-code-at-eq32 : goal.loop-at-preserved-then-code-at-eq32
-loop-at-preserved-then-code-at-eq32 c = (omega (arith, c.loop-at.invariant.0), space_turn c.loop-at-test.true c.loop-at.invariant.1 c.if-code-at-eq32.true)
-
-pub returns-in_err-word : goal.returns-in_err-word
-returns-in_err-word c =
+pub returns-in_err-word-clause-reads : goal.returns-in_err-word-clause-reads
+returns-in_err-word-clause-reads c =
     let p = err_from_is_err_and c.from_residual.result c.from_residual.ensures.1 in
-    let is = fault_turn c.loop-at-test.true c.loop-at.invariant.1 _ c.if-code-at-eq32.false c.in_err-word.ensures in
-    rw (p.1, p.2, is) (record { reads = inr refl; few = tt })
+    rw (p.1, p.2, fault_turn c.in-len1-up.len_at_least c.loop-rest.invariant _ c.if-first-eq32.false c.in_err-word.ensures) (inr refl)
 
-pub loop-at-smaller : goal.loop-at-smaller
-loop-at-smaller c =
-    let sized = word_size c.loop-at-test.true c.loop-at.invariant.1 (token c.in_ok-word.word) c.in_ok-word.ensures in
-    omega (arith, sized.0, ap length c.text.ensures)
+pub slice_bounds-rest-count : goal.slice_bounds-rest-count
+slice_bounds-rest-count c =
+    let sized = word_size c.in-len1-up.len_at_least c.loop-rest.invariant (token c.in_ok-word.word) c.in_ok-word.ensures in
+    omega (arith, sized.1, ap length c.text.ensures)
 
-pub loop-at-preserved : goal.loop-at-preserved
-loop-at-preserved c =
-    let sized = word_size c.loop-at-test.true c.loop-at.invariant.1 (token c.in_ok-word.word) c.in_ok-word.ensures in
-    let turned = word_turn c.loop-at-test.true c.loop-at.invariant.1 (token c.in_ok-word.word) c.if-code-at-eq32.false c.in_ok-word.ensures in
+pub slice_bounds-rest-start : goal.slice_bounds-rest-start
+slice_bounds-rest-start c =
+    let sized = word_size c.in-len1-up.len_at_least c.loop-rest.invariant (token c.in_ok-word.word) c.in_ok-word.ensures in
+    omega (arith, sized.1, ap length c.text.ensures)
+
+pub loop-rest-smaller : goal.loop-rest-smaller
+loop-rest-smaller c =
+    let sized = word_size c.in-len1-up.len_at_least c.loop-rest.invariant (token c.in_ok-word.word) c.in_ok-word.ensures in
+    let m = length c.text.result.now in
+    omega (arith, sized.0, sized.1, ap length c.text.ensures, ap length (take_rest c.loop-rest.rest.now m), length-drop m c.loop-rest.rest.now)
+
+pub loop-rest-preserved : goal.loop-rest-preserved
+loop-rest-preserved c =
     let ok = ap is_ok c.in_ok-push.was in
     let pushed = chosen _ _ _ _ c.push.ensures.items ok in
-    let more = chosen _ _ _ _ c.push.ensures.len ok in (
-      omega (arith, c.loop-at.invariant.0, more, sized.0, ap length c.text.ensures),
-      turned_to c.loop-at.at _ _ turned (ap length c.text.ensures) (ap (map token) pushed ∙ map_push token _ _),
-    )
+    let more = chosen _ _ _ _ c.push.ensures.len ok in
+    rw more (word_turn c.in-len1-up.len_at_least c.loop-rest.invariant (token c.in_ok-word.word) _ (ap length c.text.ensures) (ap (map token) pushed ∙ map_push token _ _) c.if-first-eq32.false c.in_ok-word.ensures)
 
-pub returns : goal.returns
-returns c =
-    record { reads = inr (sym (line_done c.loop-at-test.false c.loop-at.invariant.1)); few = omega (arith, c.loop-at.invariant.0, c.loop-at.invariant.1.within) }
+pub returns-clause-reads : goal.returns-clause-reads
+returns-clause-reads c = inr (sym (line_done c.in_default.len_below c.loop-rest.invariant))

@@ -1,21 +1,29 @@
-use Rattle.std.proofs.Common.{sym, ◌∙◌}
-use Rattle.std.proofs.lemmas.List.{at_drop_all}
-use Rattle.std.proofs.lemmas.Slice.Eq.{slice_eq-Decides}
-use Rattle.std.proofs.lemmas.Bool.{cond-true, cond-false}
+use Rattle.std.proofs.Common.{◌≡◌, ℕ, List, [], ◌∷◌, option_map, Option, Some, None, Bor, refl, ap, sym, ◌∙◌, rules, tests}
+use Rattle.std.proofs.lemmas.Bool.{cond_both, cond-true, cond-false}
+use Rattle.std.proofs.lemmas.Iterator.{YieldsList-from_slice}
+use Rattle.std.proofs.lemmas.Iterator.Search.{find_from_yields_List}
+use Rattle.std.specs.List.{find}
+use Rattle.std.specs.Str.{bytes_eq}
 use Rattle.words.specs.Scan.{listed, rows}
-use Rattle.words.proofs.Keywords.{turn}
+use Rattle.words.specs.declared.vocabulary.Keyword.{Keyword}
 use Rattle.words.proofs.scan.listed_in.Goals as goal
-use Rattle.std.proofs.lemmas.Bool.Decides.{Decides-eqb}
 
-pub returns-then-eq : goal.returns-then-eq
-returns-then-eq c =
-    sym (turn _ _ _ _ _ _ c.loop-row-test.true (slice_eq-Decides Decides-eqb _ _ _ c.eq.ensures) c.loop-row.invariant
-    ∙ cond-true _ _ _ c.if-eq.true)
+abbrev Row : Type 0
+Row = Bor (List ℕ) × Keyword
 
-pub loop-row-preserved : goal.loop-row-preserved
-loop-row-preserved c =
-    turn _ _ _ _ _ _ c.loop-row-test.true (slice_eq-Decides Decides-eqb _ _ _ c.eq.ensures) c.loop-row.invariant
-    ∙ cond-false _ _ _ c.if-eq.false
+-- the keyword of the row that is found
+found_listed : (t : List Row) (s : List ℕ) → option_map (λ e. e.1) (find (λ e. bytes_eq e.0.now s) t) ≡ listed (rows t) s
+found_listed [] s = refl
+found_listed (e ∷ t) s =
+    cond_both (bytes_eq e.0.now s) (Some e) (find (λ e. bytes_eq e.0.now s) t) (λ o. option_map (λ e. e.1) o ≡ listed (rows (e ∷ t)) s)
+    (λ is. sym (cond-true _ _ _ is)) (λ is. found_listed t s ∙ sym (cond-false _ _ _ is))
+
+keyword_at : (r : Option (Bor Row)) → option_map (λ r. r.now.1) r ≡ option_map (λ e. e.1) (option_map (λ r. r.now) r)
+keyword_at None = refl
+keyword_at (Some r) = refl
 
 pub returns : goal.returns
-returns c = sym (c.loop-row.invariant ∙ at_drop_all (λ xs. listed (rows xs) c.args.name.now) _ _ c.loop-row-test.false)
+returns c =
+    let found = find_from_yields_List (λ e. bytes_eq e.0.now c.args.name.now) _ _ c.find.result c.find.ensures.ran (YieldsList-from_slice c.args.table.now cc) (λ x b q k. search (rules, tests)) in
+    let told : c.map.result ≡ option_map (λ r. r.now.1) c.find.result = search rules in
+    told ∙ keyword_at c.find.result ∙ ap (option_map (λ e. e.1)) found ∙ found_listed c.args.table.now c.args.name.now

@@ -1,17 +1,22 @@
-use Rattle.std.proofs.Common.{◌+◌, ◌*◌, drop, Some, ap, ◌∙◌, arith, w32}
-use Rattle.std.proofs.lemmas.Int.{to_z_pos}
-use Rattle.words.proofs.Numbers.{digit_more, too_big, all_read}
+use Rattle.std.proofs.Common.{◌≡◌, None, ap, ◌∙◌, arith, rules}
+use Rattle.std.proofs.lemmas.List.{take_all}
+use Rattle.words.proofs.Numbers.{next_within, too_big, in_int}
+use Rattle.words.specs.Scan.{decimal_value}
 use Rattle.words.proofs.scan.number_of.Goals as goal
 
-pub returns-then-n-gt-LARGEST : goal.returns-then-n-gt-LARGEST
-returns-then-n-gt-LARGEST c =
-    let s = c.args.digits.now in
-    let i = c.loop-d.d-index in
-    let m = c.loop-d.n * 10 + c.from.result in
-    too_big s (drop (i + 1) s) m (digit_more s i c.loop-d.n m c.loop-d-test.true (omega arith) c.loop-d.invariant.1) c.if-n-gt-LARGEST.true
+pub returns-in_err-checked_mul : goal.returns-in_err-checked_mul
+returns-in_err-checked_mul c =
+    let none : c.from_residual.result ≡ None = search rules in
+    let next = next_within c.args.digits.now c.loop-d.d-index c.loop-d-test.true in
+    none ∙ too_big c.args.digits.now (omega (arith, c.in_err-checked_mul.ensures))
 
-pub loop-d-preserved : goal.loop-d-preserved
-loop-d-preserved c = (omega arith, digit_more _ _ c.loop-d.n _ c.loop-d-test.true (omega arith) c.loop-d.invariant.1)
+pub returns-in_err-n : goal.returns-in_err-n
+returns-in_err-n c =
+    let none : c.from_residual-in_err-n.result ≡ None = search rules in
+    let next = next_within c.args.digits.now c.loop-d.d-index c.loop-d-test.true in
+    none ∙ too_big c.args.digits.now (omega (arith, c.in_ok-checked_mul.ensures, c.in_err-n.ensures))
 
 pub returns : goal.returns
-returns c = ap Some (to_z_pos w32 c.loop-d.n (omega (arith, c.loop-d.invariant.0))) ∙ all_read _ _ _ c.loop-d.invariant.1 c.loop-d-test.false c.loop-d.invariant.0
+returns c =
+    let whole = take_all c.loop-d.d-index c.args.digits.now c.loop-d-test.false in
+    c.ok.ensures.value ∙ in_int c.args.digits.now c.loop-d.n c.try_from.result (c.loop-d.invariant ∙ ap decimal_value whole) c.try_from.ensures

@@ -1,6 +1,0 @@
-use Rattle.std.proofs.Common.{rules}
-use Rattle.std.proofs.lemmas.List.Sums.{prefix_len-le-length}
-use Rattle.words.proofs.scan.run.Goals as goal
-
-pub split_at-requires : goal.split_at-requires
-split_at-requires c = search (rules, prefix_len-le-length)
