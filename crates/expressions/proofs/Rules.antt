@@ -1,5 +1,5 @@
 -- The value of an expression is the one that the rules of evaluation give.
-use Rattle.std.proofs.Common.{◌≡◌, ℕ, true, false, ℤ, Some, None, Option, sym, refl, ap, ◌∙◌, subst, arith}
+use Rattle.std.proofs.Common.{◌≡◌, true, false, ℤ, Some, None, Option, sym, refl, ap, ◌∙◌, subst}
 use Rattle.integers.specs.Int.{applied, negated}
 use Rattle.expressions.specs.declared.Value.{Value}
 use Rattle.expressions.specs.declared.Value.TheVariants.{Int, Truth}
@@ -32,8 +32,8 @@ complete s (of_false_or h k) = at_both Or (complete s h) (complete s k)
 one : {a b : Value} → ◌≡◌ {A = Option Value} (Some a) (Some b) → a ≡ b
 one p = cc
 
-never : {a : Value} → ◌≡◌ {A = Option Value} None (Some a) → ⊥
-never p = let z : ◌≡◌ {A = ℕ} 0 1 = cc in omega arith
+never : {A : Type 0} {a : Value} → ◌≡◌ {A = Option Value} None (Some a) → A
+never p = cc
 
 -- An operand whose value, if it has one, the rules give.
 Given : Store → Expression → Option Value → Type 0
@@ -41,48 +41,31 @@ Given s e o = (w : Value) → o ≡ Some w → Has s e w
 
 negative_sound : (s : Store) (e : Expression) (v : Value) (o : Option Value) → Given s e o → negative_of o ≡ Some v → Has s (negative e) v
 unfolding Given
-negative_sound s e v None g p = absurd (never p)
 negative_sound s e v (Some (Int a)) g p = by (negated a) refl p
   where
     by : (n : Option ℤ) → negated a ≡ n → as_int n ≡ Some v → Has s (negative e) v
-    by None q p = absurd (never p)
+    by None q p = never p
     by (Some w) q p = subst (Has s (negative e)) (one p) (of_negative (g (Int a) refl) q)
-negative_sound s e v (Some (Truth b)) g p = absurd (never p)
+negative_sound s e v o g p = never p
 
 negation_sound : (s : Store) (e : Expression) (v : Value) (o : Option Value) → Given s e o → negation_of o ≡ Some v → Has s (negation e) v
 unfolding Given
-negation_sound s e v None g p = absurd (never p)
-negation_sound s e v (Some (Int a)) g p = absurd (never p)
 negation_sound s e v (Some (Truth b)) g p = subst (Has s (negation e)) (one p) (of_negation (g (Truth b) refl))
+negation_sound s e v o g p = never p
 
 dyadic_sound : (s : Store) (op : Dyadic) (e f : Expression) (v : Value) (l r : Option Value) → Given s e l → Given s f r → combined op l r ≡ Some v → Has s (dyadic op e f) v
 unfolding Given
-dyadic_sound s (Arithmetic op) e f v None r g h p = absurd (never p)
-dyadic_sound s (Arithmetic op) e f v (Some (Int a)) None g h p = absurd (never p)
 dyadic_sound s (Arithmetic op) e f v (Some (Int a)) (Some (Int b)) g h p = by (applied op a b) refl p
   where
     by : (n : Option ℤ) → applied op a b ≡ n → as_int n ≡ Some v → Has s (dyadic (Arithmetic op) e f) v
-    by None q p = absurd (never p)
+    by None q p = never p
     by (Some w) q p = subst (Has s (dyadic (Arithmetic op) e f)) (one p) (of_arithmetic (g (Int a) refl) (h (Int b) refl) q)
-dyadic_sound s (Arithmetic op) e f v (Some (Int a)) (Some (Truth b)) g h p = absurd (never p)
-dyadic_sound s (Arithmetic op) e f v (Some (Truth a)) r g h p = absurd (never p)
-dyadic_sound s (Compare c) e f v None r g h p = absurd (never p)
-dyadic_sound s (Compare c) e f v (Some (Int a)) None g h p = absurd (never p)
 dyadic_sound s (Compare c) e f v (Some (Int a)) (Some (Int b)) g h p = subst (Has s (dyadic (Compare c) e f)) (one p) (of_comparison (g (Int a) refl) (h (Int b) refl))
-dyadic_sound s (Compare c) e f v (Some (Int a)) (Some (Truth b)) g h p = absurd (never p)
-dyadic_sound s (Compare c) e f v (Some (Truth a)) r g h p = absurd (never p)
-dyadic_sound s And e f v None r g h p = absurd (never p)
-dyadic_sound s And e f v (Some (Int a)) r g h p = absurd (never p)
 dyadic_sound s And e f v (Some (Truth false)) r g h p = subst (Has s (dyadic And e f)) (one p) (of_false_and (g (Truth false) refl))
-dyadic_sound s And e f v (Some (Truth true)) None g h p = absurd (never p)
-dyadic_sound s And e f v (Some (Truth true)) (Some (Int b)) g h p = absurd (never p)
 dyadic_sound s And e f v (Some (Truth true)) (Some (Truth b)) g h p = subst (Has s (dyadic And e f)) (one p) (of_true_and (g (Truth true) refl) (h (Truth b) refl))
-dyadic_sound s Or e f v None r g h p = absurd (never p)
-dyadic_sound s Or e f v (Some (Int a)) r g h p = absurd (never p)
 dyadic_sound s Or e f v (Some (Truth true)) r g h p = subst (Has s (dyadic Or e f)) (one p) (of_true_or (g (Truth true) refl))
-dyadic_sound s Or e f v (Some (Truth false)) None g h p = absurd (never p)
-dyadic_sound s Or e f v (Some (Truth false)) (Some (Int b)) g h p = absurd (never p)
 dyadic_sound s Or e f v (Some (Truth false)) (Some (Truth b)) g h p = subst (Has s (dyadic Or e f)) (one p) (of_false_or (g (Truth false) refl) (h (Truth b) refl))
+dyadic_sound s op e f v l r g h p = never p
 
 -- The value is one that the rules give.
 sound : (s : Store) (e : Expression) → Given s e (value s e)

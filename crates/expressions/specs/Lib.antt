@@ -3,3 +3,4 @@ pub mod Value
 pub mod Evaluation
 pub mod Reads
 pub mod Worked
+pub mod Text

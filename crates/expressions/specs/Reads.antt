@@ -1,5 +1,6 @@
 -- The variables that an expression reads.
-use Rattle.std.specs.Prelude.{◌≡◌, ℕ, ◌/◌, ◌%◌, ◌^◌, ◌⊎◌}
+use Rattle.std.specs.Prelude.{◌≡◌, ℕ, ◌⊎◌}
+use Rattle.std.specs.Int.{bit_at}
 use Rattle.expressions.specs.Expression.{Expression, number, truth, variable, negative, negation, dyadic}
 use Rattle.expressions.specs.Value.{Store, value}
 
@@ -14,7 +15,7 @@ Reads (dyadic op a b) x = Reads a x ⊎ Reads b x
 
 -- Bit x of the mask is 1.
 abbrev pub InMask : ℕ → ℕ → Type 0
-InMask mask x = mask / 2 ^ x % 2 ≡ 1
+InMask mask x = bit_at mask x ≡ 1
 
 -- Bit x of the mask is 1 exactly when x is one of the variables told.
 pub record Masks (mask : ℕ) (Told : ℕ → Type 0) : Type 0 where

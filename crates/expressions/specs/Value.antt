@@ -1,5 +1,5 @@
 -- The value of an expression in a store of variables.
-use Rattle.std.specs.Prelude.{ℕ, Bool, true, false, cond, not, List, ℤ, pos, Some, None, Option, slice_index_or}
+use Rattle.std.specs.Prelude.{◌≡◌, refl, ℕ, Bool, true, false, cond, not, List, ℤ, pos, Some, None, Option, slice_index_or}
 use Rattle.integers.specs.Int.{applied, negated, compared}
 use Rattle.expressions.specs.declared.Value.{Value}
 use Rattle.expressions.specs.declared.Value.TheVariants.{Int, Truth}
@@ -73,3 +73,11 @@ int_value s e = int_of (value s e)
 -- The value of an expression that is to be a truth value.
 unfoldable pub truth_value : Store → Expression → Option Bool
 truth_value s e = truth_of (value s e)
+
+pub int_valued : (s : Store) (e : Expression) → int_value s e ≡ int_of (value s e)
+unfolding int_value
+int_valued s e = refl
+
+pub truth_valued : (s : Store) (e : Expression) → truth_value s e ≡ truth_of (value s e)
+unfolding truth_value
+truth_valued s e = refl

@@ -15,7 +15,8 @@ pub enum Layer {
     Host,
 }
 
-// A refusal. Lines and bytes are counted from 1; byte 0 means the whole line, line 0 the whole text.
+// A refusal. Lines and bytes are counted from 1; byte 0 means the whole line, line 0 the whole text. By a rule of the
+// project a refusal is told by these numbers, so they stand here as they are told.
 #[derive(Clone, Copy, Debug, PartialEq, Eq)]
 pub struct Fault {
     pub number: u8,

@@ -1,16 +1,16 @@
 -- What the code's flowchart stands for in the rules.
-use Rattle.std.specs.Prelude.{◌≡◌, ℕ, map, get_or, Some, None, vec_items, Option, slice_index_or}
+use Rattle.std.specs.Prelude.{◌≡◌, ℕ, map, get_or, Some, None, vec_items, vec_len, Option, slice_index_or}
 use Rattle.std.proofs.Common.{lit<}
 use Rattle.std.specs.Borrow.{Bor}
 use Rattle.expressions.specs.Expression.{shape}
-use Rattle.expressions.specs.declared.variables.Variable.{Variable}
+use Rattle.numbers.specs.Kinds.{Process, Variable}
 use Rattle.rules.specs.declared.Kind.TheVariants.{Internal}
 use Rattle.rules.specs.declared.Place.{Place}
-use Rattle.rules.specs.declared.numbers.Process.{Process}
 use Rattle.rules.specs.Flowchart as chart
 use Rattle.flowchart.specs.declared.program.Branch.{Branch}
 use Rattle.flowchart.specs.declared.program.Guard.{Guard}
 use Rattle.flowchart.specs.declared.program.Guard.TheVariants as guard
+use Rattle.flowchart.specs.declared.program.Line.{Line}
 use Rattle.flowchart.specs.declared.program.Node.{Node}
 use Rattle.flowchart.specs.declared.program.Node.TheVariants.{Assignment, Skip, Stop, Input, Output, Test, Par, Alt}
 use Rattle.flowchart.specs.declared.program.Origin.{Origin}
@@ -41,16 +41,20 @@ root = record { number = 0; below = lit< tt }
 abbrev pub rootless : Origin
 rootless = record { parent = root; home = 0 }
 
--- the program of the rules: past the last line stands a STOP
+-- what stands past the last line: a STOP of process 0
+abbrev pub beyond : Line
+beyond = record { node = Stop; owner = root; number = 0 }
+
+-- the program of the rules
 abbrev pub program_of : Program → chart.Program
 program_of pg = record {
-  node = λ n. node_of (slice_index_or (vec_items pg.nodes) n Stop);
+  node = λ n. node_of (get_or (vec_items pg.lines) n beyond).node;
   kind = λ c. slice_index_or pg.kinds c Internal;
   entry = pg.entry;
-  processes = pg.processes;
-  owner = λ n. (get_or (vec_items pg.owners) n root).number;
-  parent = λ p. (get_or pg.origins p rootless).parent.number;
-  home = λ p. (get_or pg.origins p rootless).home;
+  processes = vec_len pg.origins;
+  owner = λ n. (get_or (vec_items pg.lines) n beyond).owner.number;
+  parent = λ p. (get_or (vec_items pg.origins) p rootless).parent.number;
+  home = λ p. (get_or (vec_items pg.origins) p rootless).home;
 }
 
 -- what stands at line n

@@ -3,4 +3,4 @@
 
 mod program;
 
-pub use program::{Branch, Guard, Node, Origin, Program};
+pub use program::{Branch, Guard, Line, Node, Origin, Program};

@@ -11,12 +11,12 @@ mod reads;
 pub enum Guard {
     // condition & SKIP
     Skip {
-        condition: Expr,
+        condition: Expr<Variable>,
         to: Place,
     },
     // condition & channel ? variable
     Input {
-        condition: Expr,
+        condition: Expr<Variable>,
         channel: Channel,
         variable: Variable,
         to: Place,
@@ -36,7 +36,7 @@ pub enum Node {
     // variable := value
     Assignment {
         variable: Variable,
-        value: Expr,
+        value: Expr<Variable>,
         to: Place,
     },
     Skip {
@@ -53,12 +53,12 @@ pub enum Node {
     // channel ! value
     Output {
         channel: Channel,
-        value: Expr,
+        value: Expr<Variable>,
         to: Place,
     },
     // a choice or WHILE
     Test {
-        condition: Expr,
+        condition: Expr<Variable>,
         on_true: Place,
         on_false: Place,
     },
@@ -78,25 +78,25 @@ pub struct Origin {
     pub home: u16,
 }
 
+// A line of a program: what stands there, the process that it belongs to, and its number in the text.
+#[derive(Drop)]
+pub struct Line {
+    pub node: Node,
+    pub owner: Process,
+    pub number: u16,
+}
+
 // A program. Its lines are those of the text that have words, numbered from 0.
 #[derive(Drop)]
 pub struct Program {
-    // what stands at each line
-    pub nodes: Vec<Node>,
-    // the process that each line belongs to
-    pub owners: Vec<Process>,
-    // the number of each line in the text
-    pub lines: Vec<u16>,
+    pub lines: Vec<Line>,
     // what each channel is
     pub kinds: [Kind; 64],
-    // where each process but process 0 comes from
-    pub origins: [Origin; 64],
+    // where each process comes from; process 0 has itself as its parent
+    pub origins: Vec<Origin>,
     // where process 0 starts
     pub entry: Place,
-    // how many processes there are
-    pub processes: u8,
     // how many variables there are
     pub variables: u8,
     ghost wide: { length kinds ≡ 64 },
-    ghost long: { length origins ≡ 64 },
 }

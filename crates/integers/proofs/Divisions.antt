@@ -1,42 +1,23 @@
 -- Quotient and remainder keep the law of division.
-use Rattle.std.proofs.Common.{◌≡◌, ℕ, zero, suc, ◌+◌, ◌*◌, ◌/◌, ◌%◌, ◌<◌, ℤ, pos, negsuc, ◌*ℤ◌, neg_ℤ, nat_abs, refl, mod-lt, zero-lt-suc, div-add-mod', arith}
-use lib.Signed.{quot_z, rem_z}
-use Rattle.std.proofs.lemmas.Int.{ints}
+use Rattle.std.proofs.Common.{◌≡◌, zero, suc, ◌<◌, ℤ, pos, negsuc, ◌≤ℤ◌, sym, refl, arith, int_div, int_rem, unsigned_abs}
+use Rattle.std.proofs.lemmas.Int.{ints, quot-rem, rem_below}
 use Rattle.integers.specs.Laws.{Division}
 
--- A number and its opposite lie equally far from 0.
-pub far_neg : (n : ℕ) → nat_abs (neg_ℤ (pos n)) ≡ n
-far_neg zero = refl
-far_neg (suc n) = refl
+above_zero : (b : ℤ) → (b ≡ pos 0 → ⊥) → 0 < unsigned_abs b
+above_zero (pos zero) h = absurd (h refl)
+above_zero (pos (suc n)) h = omega arith
+above_zero (negsuc n) h = omega arith
 
-neg_times : (q n : ℕ) → neg_ℤ (pos q) *ℤ pos n ≡ neg_ℤ (pos (q * n))
-neg_times zero n = omega (arith, ints)
-neg_times (suc q) n = refl
+rem_not_below : (a b : ℤ) → pos 0 ≤ℤ a → pos 0 ≤ℤ int_rem a b
+rem_not_below (pos m) (pos n) p = omega (arith, ints)
+rem_not_below (pos m) (negsuc n) p = omega (arith, ints)
+rem_not_below (negsuc m) b p = absurd (omega (arith, ints))
 
-neg_times_neg : (q n : ℕ) → neg_ℤ (pos q) *ℤ negsuc n ≡ pos (q * suc n)
-neg_times_neg zero n = omega (arith, ints)
-neg_times_neg (suc q) n = refl
+rem_not_above : (a b : ℤ) → a ≤ℤ pos 0 → int_rem a b ≤ℤ pos 0
+rem_not_above (pos m) (pos n) p = omega (arith, ints)
+rem_not_above (pos m) (negsuc n) p = omega (arith, ints)
+rem_not_above (negsuc m) (pos n) p = omega (arith, ints)
+rem_not_above (negsuc m) (negsuc n) p = omega (arith, ints)
 
--- The natural division that all four signs rest on.
-natural : (m n : ℕ) → (m / suc n * suc n + m % suc n ≡ m) × (m % suc n < suc n)
-natural m n = (div-add-mod' m (suc n), mod-lt m (zero-lt-suc n))
-
-pub division : (a b : ℤ) → (b ≡ pos 0 → ⊥) → Division a b (quot_z a b) (rem_z a b)
-division (pos m) (pos zero) h = absurd (h refl)
-division (pos m) (pos (suc n)) h =
-    let d = natural m n in
-    record { whole = omega (arith, ints); smaller = d.1; not_below = λ p. omega (arith, ints); not_above = λ p. omega (arith, ints) }
-division (pos m) (negsuc n) h =
-    let d = natural m n in
-    let e = neg_times_neg (m / suc n) n in
-    record { whole = omega (arith, ints); smaller = d.1; not_below = λ p. omega (arith, ints); not_above = λ p. omega (arith, ints) }
-division (negsuc m) (pos zero) h = absurd (h refl)
-division (negsuc m) (pos (suc n)) h =
-    let d = natural (suc m) n in
-    let e = neg_times (suc m / suc n) (suc n) in
-    let f = far_neg (suc m % suc n) in
-    record { whole = omega (arith, ints); smaller = omega arith; not_below = λ p. omega (arith, ints); not_above = λ p. omega (arith, ints) }
-division (negsuc m) (negsuc n) h =
-    let d = natural (suc m) n in
-    let f = far_neg (suc m % suc n) in
-    record { whole = omega (arith, ints); smaller = omega arith; not_below = λ p. omega (arith, ints); not_above = λ p. omega (arith, ints) }
+pub division : (a b : ℤ) → (b ≡ pos 0 → ⊥) → Division a b (int_div a b) (int_rem a b)
+division a b h = record { whole = sym (quot-rem a b); smaller = rem_below a b (above_zero b h); not_below = rem_not_below a b; not_above = rem_not_above a b }

@@ -1,6 +1,5 @@
 -- What the operators give is what the laws say.
-use Rattle.std.proofs.Common.{◌≡◌, Bool, true, false, cond, ℤ, pos, ◌+ℤ◌, ◌-ℤ◌, ◌*ℤ◌, neg_ℤ, Some, None, Option, sym, refl, subst, inl, inr, arith}
-use lib.Signed.{quot_z, rem_z}
+use Rattle.std.proofs.Common.{◌≡◌, Bool, true, false, cond, ℤ, pos, ◌+ℤ◌, ◌-ℤ◌, ◌*ℤ◌, neg_ℤ, Some, None, Option, int_div, int_rem, sym, refl, subst, inl, inr, arith}
 use Rattle.std.proofs.lemmas.Int.{ints}
 use Rattle.integers.specs.declared.Operator.{Operator}
 use Rattle.integers.specs.declared.Operator.TheVariants.{Add, Subtract, Multiply, Divide, Remainder, Plus, Minus, Times}
@@ -20,16 +19,16 @@ zero_no b h e = grind (arith, ints)
 quotient_gives : (a b : ℤ) → Gives Divide a b (applied Divide a b)
 quotient_gives a b = by (eq_z b (pos 0)) refl
   where
-    by : (t : Bool) → eq_z b (pos 0) ≡ t → Gives Divide a b (cond t None (inside (quot_z a b)))
+    by : (t : Bool) → eq_z b (pos 0) ≡ t → Gives Divide a b (cond t None (inside (int_div a b)))
     by true h = inl (zero_yes b h, refl)
-    by false h = inr (quot_z a b, rem_z a b, division a b (zero_no b h), inside_exact (quot_z a b))
+    by false h = inr (int_div a b, int_rem a b, division a b (zero_no b h), inside_exact (int_div a b))
 
 remainder_gives : (a b : ℤ) → Gives Remainder a b (applied Remainder a b)
 remainder_gives a b = by (eq_z b (pos 0)) refl
   where
-    by : (t : Bool) → eq_z b (pos 0) ≡ t → Gives Remainder a b (cond t None (Some (rem_z a b)))
+    by : (t : Bool) → eq_z b (pos 0) ≡ t → Gives Remainder a b (cond t None (Some (int_rem a b)))
     by true h = inl (zero_yes b h, refl)
-    by false h = inr (quot_z a b, rem_z a b, division a b (zero_no b h), refl)
+    by false h = inr (int_div a b, int_rem a b, division a b (zero_no b h), refl)
 
 applied_gives : (op : Operator) (a b : ℤ) → Gives op a b (applied op a b)
 applied_gives Add a b = inside_exact (a +ℤ b)

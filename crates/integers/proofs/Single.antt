@@ -1,11 +1,10 @@
 -- The laws leave one answer.
-use Rattle.std.proofs.Common.{◌≡◌, ℕ, zero, suc, ◌+◌, ◌*◌, ◌<◌, ℤ, pos, negsuc, ◌+ℤ◌, ◌-ℤ◌, ◌*ℤ◌, nat_abs, Some, None, Option, sym, refl, ap, ◌∙◌, subst, inl, inr, arith}
+use Rattle.std.proofs.Common.{◌≡◌, ℕ, zero, suc, ◌+◌, ◌*◌, ◌<◌, ℤ, pos, ◌+ℤ◌, ◌-ℤ◌, ◌*ℤ◌, unsigned_abs, Some, None, Option, sym, refl, ap, ◌∙◌, subst, inl, inr, arith}
 use borrow.Author.Differences.{up, down, same_in, sum_is_lem, neg_is, product_is}
-use Rattle.std.proofs.lemmas.Int.{ints, by_lt_z}
+use Rattle.std.proofs.lemmas.Int.{ints, by_lt_z, unsigned_abs-mul}
 use Rattle.integers.specs.declared.Operator.{Operator}
 use Rattle.integers.specs.declared.Operator.TheVariants.{Add, Subtract, Multiply, Divide, Remainder, Plus, Minus, Times}
 use Rattle.integers.specs.Laws.{Division, Exactly, Modulo, Gives}
-use Rattle.integers.proofs.Divisions.{far_neg}
 
 pub exactly_one : (z : ℤ) (v w : Option ℤ) → Exactly z v → Exactly z w → v ≡ w
 exactly_one z (Some v) (Some w) p q = ap Some (p.0 ∙ sym q.0)
@@ -18,13 +17,6 @@ modulo_one z (Some v) (Some w) p q = ap Some (omega (arith, ints, p.0.0, p.0.1, 
 modulo_one z (Some v) None p q = absurd q
 modulo_one z None (Some w) p q = absurd p
 modulo_one z None None p q = refl
-
--- A product lies as far from 0 as the product of the distances.
-far_times : (x y : ℤ) → nat_abs (x *ℤ y) ≡ nat_abs x * nat_abs y
-far_times (pos m) (pos n) = refl
-far_times (pos m) (negsuc n) = far_neg (m * suc n)
-far_times (negsuc m) (pos n) = far_neg (suc m * n)
-far_times (negsuc m) (negsuc n) = refl
 
 -- A difference times b.
 difference_times : (q p b : ℤ) → (q -ℤ p) *ℤ b ≡ q *ℤ b -ℤ p *ℤ b
@@ -40,7 +32,7 @@ zero_times zero n h = refl
 zero_times (suc m) n h = absurd (omega arith)
 
 -- Two remainders of one number lie nearer to each other than the divisor lies to 0.
-remainders_near : (a b q r p s : ℤ) → Division a b q r → Division a b p s → nat_abs (s -ℤ r) < nat_abs b
+remainders_near : (a b q r p s : ℤ) → Division a b q r → Division a b p s → unsigned_abs (s -ℤ r) < unsigned_abs b
 remainders_near a b q r p s d e =
     by_lt_z a (pos 0)
     (λ l. omega (arith, ints, d.not_above (omega (arith, ints)), e.not_above (omega (arith, ints))))
@@ -49,8 +41,8 @@ remainders_near a b q r p s d e =
 division_one : (a b q r p s : ℤ) → Division a b q r → Division a b p s → (q ≡ p) × (r ≡ s)
 division_one a b q r p s d e =
     let apart : (q -ℤ p) *ℤ b ≡ s -ℤ r = difference_times q p b ∙ omega (arith, ints, d.whole, e.whole) in
-    let far : nat_abs (q -ℤ p) * nat_abs b < nat_abs b = subst (λ n. n < nat_abs b) (sym (ap nat_abs apart) ∙ far_times (q -ℤ p) b) (remainders_near a b q r p s d e) in
-    let none : nat_abs (q -ℤ p) ≡ 0 = zero_times _ _ far in
+    let far : unsigned_abs (q -ℤ p) * unsigned_abs b < unsigned_abs b = subst (λ n. n < unsigned_abs b) (sym (ap unsigned_abs apart) ∙ unsigned_abs-mul (q -ℤ p) b) (remainders_near a b q r p s d e) in
+    let none : unsigned_abs (q -ℤ p) ≡ 0 = zero_times _ _ far in
     let same : q ≡ p = omega (arith, ints) in
     (same, omega (arith, ints, ap (λ x. x *ℤ b) same, d.whole, e.whole))
 

@@ -7,144 +7,65 @@ use listing::printout;
 use std::alloc::{AllocError, Global};
 use std::io::Write;
 
-struct Case {
-    name: &'static str,
-    text: &'static [u8],
-}
-
-static CASES: [Case; 33] = [
-    Case {
-        name: "eight brackets",
-        text: b"INT a:\na := ((((((((1))))))))",
-    },
-    Case {
-        name: "nine brackets",
-        text: b"INT a:\na := (((((((((1)))))))))",
-    },
-    Case {
-        name: "three operands",
-        text: b"INT a:\na := 1 + 2 + 3",
-    },
-    Case {
-        name: "a sign after an operator",
-        text: b"INT a:\na := 1 + -2",
-    },
-    Case {
-        name: "a sign in brackets",
-        text: b"INT a:\na := 1 + (-2)",
-    },
-    Case {
-        name: "two assignments",
-        text: b"INT a, b:\na := b :=",
-    },
-    Case {
-        name: "nothing after the sign",
-        text: b"INT a:\na :=",
-    },
-    Case {
-        name: "address 8",
-        text: b"CHAN OF INT c:\nPLACE c AT 8:",
-    },
-    Case {
-        name: "an address in brackets",
-        text: b"CHAN OF INT c:\nPLACE c AT (1):",
-    },
-    Case {
-        name: "a channel placed twice",
-        text: b"CHAN OF INT c:\nPLACE c AT 0:\nPLACE c AT 1:",
-    },
-    Case {
-        name: "an address placed twice",
-        text: b"CHAN OF INT c, d:\nPLACE c AT 4:\nPLACE d AT 4:",
-    },
-    Case {
-        name: "output to an incoming link",
-        text: b"CHAN OF INT c:\nPLACE c AT 4:\nc ! 1",
-    },
-    Case {
-        name: "input from an outgoing link",
-        text: b"CHAN OF INT c:\nINT x:\nPLACE c AT 3:\nc ? x",
-    },
-    Case {
-        name: "a guard on an outgoing link",
-        text: b"CHAN OF INT c:\nINT x:\nPLACE c AT 3:\nTRUE & c ? x",
-    },
-    Case {
-        name: "declared twice in a line",
-        text: b"INT a, a:",
-    },
-    Case {
-        name: "declared by another kind",
-        text: b"CHAN OF INT c:\nINT x, c:",
-    },
-    Case {
-        name: "an undeclared name",
-        text: b"x := 1",
-    },
-    Case {
-        name: "a channel as a variable",
-        text: b"CHAN OF INT c:\nc ? c",
-    },
-    Case {
-        name: "a variable as a channel",
-        text: b"INT x:\nx ! 1",
-    },
-    Case {
-        name: "an undeclared name right of a wrong type",
-        text: b"INT x:\nx := TRUE AND y",
-    },
-    Case {
-        name: "a truth value assigned",
-        text: b"INT x:\nx := TRUE",
-    },
-    Case {
-        name: "TRUE = FALSE",
-        text: b"TRUE = FALSE",
-    },
-    Case {
-        name: "NOT 1",
-        text: b"NOT 1",
-    },
-    Case {
-        name: "WHILE over a number",
-        text: b"INT x:\nWHILE x",
-    },
-    Case {
-        name: "PRI alone",
-        text: b"PRI",
-    },
-    Case {
-        name: "PRI SEQ",
-        text: b"PRI SEQ",
-    },
-    Case {
-        name: "a timer",
-        text: b"TIMER t:",
-    },
-    Case {
-        name: "a name list without its colon",
-        text: b"INT a, b",
-    },
-    Case {
-        name: "a guard on SKIP",
-        text: b"FALSE & SKIP",
-    },
-    Case {
-        name: "a guard on an input after an input",
-        text: b"CHAN OF INT c:\nINT x:\nc ? x & SKIP",
-    },
-    Case {
-        name: "a fault of the words in an earlier line",
-        text: b" SKIP\nx := 1",
-    },
-    Case {
-        name: "a fault of the lines in an earlier line",
-        text: b"x := 1\n#",
-    },
-    Case {
-        name: "every form",
-        text: b"INT x, y:\nCHAN OF INT in, out, c:\nPLACE in AT 4:\nPLACE out AT 0:\nSEQ\n  PAR\n  IF\n    (x = 1) OR (NOT (y <> 2))\n  ALT\n    in ? x\n    (x < y) & c ? y\n    TRUE & SKIP\n  PRI ALT\n  WHILE (x PLUS 1) >= 0\n    x := ((-x) * 3) \\ (y / 2)\n  out ! (x MINUS y) TIMES 7\n  SKIP\n  STOP",
-    },
+// Each case by its name, and its text.
+static CASES: [(&str, &[u8]); 33] = [
+    ("eight brackets", b"INT a:\na := ((((((((1))))))))"),
+    ("nine brackets", b"INT a:\na := (((((((((1)))))))))"),
+    ("three operands", b"INT a:\na := 1 + 2 + 3"),
+    ("a sign after an operator", b"INT a:\na := 1 + -2"),
+    ("a sign in brackets", b"INT a:\na := 1 + (-2)"),
+    ("two assignments", b"INT a, b:\na := b :="),
+    ("nothing after the sign", b"INT a:\na :="),
+    ("address 8", b"CHAN OF INT c:\nPLACE c AT 8:"),
+    ("an address in brackets", b"CHAN OF INT c:\nPLACE c AT (1):"),
+    (
+        "a channel placed twice",
+        b"CHAN OF INT c:\nPLACE c AT 0:\nPLACE c AT 1:",
+    ),
+    (
+        "an address placed twice",
+        b"CHAN OF INT c, d:\nPLACE c AT 4:\nPLACE d AT 4:",
+    ),
+    (
+        "output to an incoming link",
+        b"CHAN OF INT c:\nPLACE c AT 4:\nc ! 1",
+    ),
+    (
+        "input from an outgoing link",
+        b"CHAN OF INT c:\nINT x:\nPLACE c AT 3:\nc ? x",
+    ),
+    (
+        "a guard on an outgoing link",
+        b"CHAN OF INT c:\nINT x:\nPLACE c AT 3:\nTRUE & c ? x",
+    ),
+    ("declared twice in a line", b"INT a, a:"),
+    ("declared by another kind", b"CHAN OF INT c:\nINT x, c:"),
+    ("an undeclared name", b"x := 1"),
+    ("a channel as a variable", b"CHAN OF INT c:\nc ? c"),
+    ("a variable as a channel", b"INT x:\nx ! 1"),
+    (
+        "an undeclared name right of a wrong type",
+        b"INT x:\nx := TRUE AND y",
+    ),
+    ("a truth value assigned", b"INT x:\nx := TRUE"),
+    ("TRUE = FALSE", b"TRUE = FALSE"),
+    ("NOT 1", b"NOT 1"),
+    ("WHILE over a number", b"INT x:\nWHILE x"),
+    ("PRI alone", b"PRI"),
+    ("PRI SEQ", b"PRI SEQ"),
+    ("a timer", b"TIMER t:"),
+    ("a name list without its colon", b"INT a, b"),
+    ("a guard on SKIP", b"FALSE & SKIP"),
+    (
+        "a guard on an input after an input",
+        b"CHAN OF INT c:\nINT x:\nc ? x & SKIP",
+    ),
+    ("a fault of the words in an earlier line", b" SKIP\nx := 1"),
+    ("a fault of the lines in an earlier line", b"x := 1\n#"),
+    (
+        "every form",
+        b"INT x, y:\nCHAN OF INT in, out, c:\nPLACE in AT 4:\nPLACE out AT 0:\nSEQ\n  PAR\n  IF\n    (x = 1) OR (NOT (y <> 2))\n  ALT\n    in ? x\n    (x < y) & c ? y\n    TRUE & SKIP\n  PRI ALT\n  WHILE (x PLUS 1) >= 0\n    x := ((-x) * 3) \\ (y / 2)\n  out ! (x MINUS y) TIMES 7\n  SKIP\n  STOP",
+    ),
 ];
 
 // So many declarations of one variable each: `INT a0:`, `INT b0:` and so on, in lines of seven bytes.
@@ -163,17 +84,15 @@ fn declarations(heap: Global, count: u8) -> Result<Vec<u8>, AllocError>
 
 fn main(rt: HostRuntime) -> anyhow::Result<()> {
     let heap = rt.alloc();
-    for case in CASES.iter() {
-        let name = case.name;
+    for (name, text) in CASES.iter() {
         println!(rt; "== {name}")?;
-        let out = printout(heap, case.text)?;
+        let out = printout(heap, text)?;
         rt.stdout().write_all(out.as_slice())?;
     }
     for count in [64, 65] {
         println!(rt; "== {count} variables")?;
         let out = printout(heap, declarations(heap, count)?.as_slice())?;
-        let shown = if out.len() > 40 { 40 } else { out.len() };
-        rt.stdout().write_all(&out.as_slice()[0..shown])?;
+        rt.stdout().write_all(&out.as_slice()[..out.len().min(40)])?;
         println!(rt; "")?;
     }
     Ok(())

@@ -1,5 +1,5 @@
 -- The definition of a line's form obeys the law.
-use Rattle.std.proofs.Common.{◌≡◌, ℕ, ◌⊎◌, List, [], ◌∷◌, Ok, Err, Option, Result, sym, refl, ap, subst, inl, inr, ⊎_elim, arith}
+use Rattle.std.proofs.Common.{◌≡◌, ℕ, ◌⊎◌, List, [], ◌∷◌, Ok, Err, Option, Result, sym, refl, ap, subst, inl, inr, ⊎_elim}
 use Rattle.words.specs.Reading.{Reading, line_of}
 use Rattle.words.specs.Token.{Token}
 use Rattle.words.specs.declared.refusal.WordFault.{WordFault}
@@ -51,7 +51,7 @@ tells t n s = split t n s (line_of n s) refl
 
 -- an answer that is the definition's, unless memory ran out, is lawful
 pub lawful : (t : Table) (n : ℕ) (s : List ℕ) (r : Result (Option Stated × Table) LineFault) → UnlessStarved r (line_form_of t n s) → Lawful t n s r
-lawful t n s (Ok y) e = ⊎_elim (λ m. let z : ◌≡◌ {A = ℕ} 0 1 = cc in absurd (omega arith)) (λ told. let P : Result (Option Stated × Table) LineFault → Type 0 = λ x. Told t n s x in subst P e told) (tells t n s)
+lawful t n s (Ok y) e = ⊎_elim (λ m. absurd (cc)) (λ told. let P : Result (Option Stated × Table) LineFault → Type 0 = λ x. Told t n s x in subst P e told) (tells t n s)
 lawful t n s (Err f) (inl m) = inl m
 lawful t n s (Err f) (inr e) =
     ⊎_elim (λ m. inl (let g : f ≡ Memory = cc in g)) (λ told. inr (let P : Result (Option Stated × Table) LineFault → Type 0 = λ x. Told t n s x in subst P e told)) (tells t n s)

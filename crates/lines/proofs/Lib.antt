@@ -1,11 +1,5 @@
-pub mod Lists
 pub mod Searches
 pub mod Depths
-pub mod NameLists
-pub mod Clashes
-pub mod Rows
-pub mod Placed
-pub mod Declared
 pub mod Words
 pub mod Parsed
 pub mod Accepts

@@ -1,19 +1,22 @@
--- One turn of the search for a name.
-use Rattle.std.proofs.Common.{◌≡◌, ℕ, ◌+◌, ◌<◌, Bool, cond, List, ◌∷◌, map, length, get_or, drop, Some, Decides, Option, sym, ap, ◌∙◌}
-use Rattle.std.specs.Str.{bytes_eq}
-use Rattle.std.proofs.lemmas.Slice.Eq.{bytes_eq-Decides}
-use Rattle.std.proofs.lemmas.List.{drop_more}
-use Rattle.std.proofs.lemmas.Bool.Decides.{same_from_decides}
-use Rattle.lines.specs.Found.{found_from}
+-- Searches in a list of what a function gives.
+use Rattle.std.proofs.Common.{◌≡◌, ◌+◌, Bool, ◌||◌, cond, not, ltb, List, [], ◌∷◌, map, length, Some, None, refl, ap, ◌∙◌, rules}
+use Rattle.std.specs.List.{find, list_any, position, position_or_len}
+use Rattle.std.specs.Option.{option_map}
+use lib.ListN.{length-map}
 
-pub turn : {R : Type 0} (f : R → List ℕ) (xs : List R) (n : List ℕ) (i : ℕ) (x : R) (o : Option ℕ) (name : List ℕ) (b : Bool)
-    → i < length xs → x ≡ get_or xs i x → name ≡ f x → Decides b (name ≡ n)
-    → o ≡ found_from i (map f (drop i xs)) n
-    → o ≡ cond b (Some i) (found_from (i + 1) (map f (drop (i + 1) xs)) n)
-turn f xs n i x o name b within is named told inv =
-    let same = same_from_decides b (bytes_eq name n) told (bytes_eq-Decides name n) in
-    let front = drop_more xs i x within in
-    inv
-    ∙ ap (λ l. found_from i (map f l) n) (front ∙ ap (λ y. y ∷ drop (i + 1) xs) (sym is))
-    ∙ ap (λ l. cond (bytes_eq l n) (Some i) (found_from (i + 1) (map f (drop (i + 1) xs)) n)) (sym named)
-    ∙ ap (λ t. cond t (Some i) (found_from (i + 1) (map f (drop (i + 1) xs)) n)) (sym same)
+position_or_len-map : {X Y : Type 0} (p : Y → Bool) (f : X → Y) (xs : List X) → position_or_len p (map f xs) ≡ position_or_len (λ x. p (f x)) xs
+position_or_len-map p f [] = refl
+position_or_len-map p f (x ∷ xs) = ap (λ n. cond (not (p (f x))) (1 + n) 0) (position_or_len-map p f xs)
+
+pub position-map : {X Y : Type 0} (p : Y → Bool) (f : X → Y) (xs : List X) → position p (map f xs) ≡ position (λ x. p (f x)) xs
+position-map p f xs =
+    ap (λ n. cond (ltb n (length (map f xs))) (Some n) None) (position_or_len-map p f xs)
+    ∙ ap (λ n. cond (ltb (position_or_len (λ x. p (f x)) xs) n) (Some (position_or_len (λ x. p (f x)) xs)) None) (length-map xs f)
+
+pub list_any-map : {X Y : Type 0} (p : Y → Bool) (f : X → Y) (xs : List X) → list_any p (map f xs) ≡ list_any (λ x. p (f x)) xs
+list_any-map p f [] = refl
+list_any-map p f (x ∷ xs) = ap (λ b. p (f x) || b) (list_any-map p f xs)
+
+pub find-map : {X Y : Type 0} (p : Y → Bool) (f : X → Y) (xs : List X) → find p (map f xs) ≡ option_map f (find (λ x. p (f x)) xs)
+find-map p f [] = refl
+find-map p f (x ∷ xs) = search (rules, find-map p f xs)

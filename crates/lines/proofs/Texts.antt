@@ -13,10 +13,6 @@ abbrev pub behind : List Entered → Result (List Entered × Table) LineFault �
 behind es (Ok p) = Ok (es ++ p.0, p.1)
 behind es (Err e) = Err e
 
-behind_none : (r : Result (List Entered × Table) LineFault) → behind [] r ≡ r
-behind_none (Ok p) = refl
-behind_none (Err e) = refl
-
 ahead_none : (n : ℕ) (r : Result (List Entered × Table) LineFault) → ahead n None r ≡ r
 ahead_none n (Ok p) = refl
 ahead_none n (Err e) = refl
@@ -33,9 +29,6 @@ rest t ls i = forms_from t (map numbered_line (drop i ls))
 -- what the loop keeps: the lines before i have the entries es, and after them the names are those of t
 pub record Sofar (start : Table) (ls : List Line) (i : ℕ) (es : List Entered) (t : Table) : Type 0 where
   pub left : forms_from start (map numbered_line ls) ≡ behind es (rest t ls i)
-
-pub none_yet : (start : Table) (ls : List Line) → Sofar start ls 0 [] start
-none_yet start ls = record { left = sym (behind_none (forms_from start (map numbered_line ls))) }
 
 module _ {start : Table} {ls : List Line} {i : ℕ} {es : List Entered} {t : Table} (sofar : Sofar start ls i es t) where
   turned : (d : Line) (r : Result (Option Stated × Table) LineFault) → i < length ls → line_form_of t (get_or ls i d).number (get_or ls i d).bytes.now ≡ r

@@ -23,9 +23,9 @@ pub data Sort : Type 0 where
 -- the words make that operand or expression, with brackets at most d deep
 pub data Makes : Sort → ℕ → List Token → Phrase → Type 0 where
   -- an operand is a name, a number, TRUE or FALSE
-  of_named : {d : ℕ} {t : Token} {n : Naming} → leaf_of t ≡ of_name n → Makes operand d (t ∷ []) (name n)
-  of_numbered : {d : ℕ} {t : Token} {z : ℤ} → leaf_of t ≡ of_number z → Makes operand d (t ∷ []) (number z)
-  of_truthful : {d : ℕ} {t : Token} {b : Bool} → leaf_of t ≡ of_truth b → Makes operand d (t ∷ []) (truth b)
+  of_named : {d : ℕ} {t : Token} {n : Naming} → leaf_of t ≡ Some (of_name n) → Makes operand d (t ∷ []) (name n)
+  of_numbered : {d : ℕ} {t : Token} {z : ℤ} → leaf_of t ≡ Some (of_number z) → Makes operand d (t ∷ []) (number z)
+  of_truthful : {d : ℕ} {t : Token} {b : Bool} → leaf_of t ≡ Some (of_truth b) → Makes operand d (t ∷ []) (truth b)
   -- or an expression in brackets
   in_brackets : {d : ℕ} {t : Token} {ws : List Token} {e : Phrase} (ts : List Token) (u : Token) → ws ≡ ts ++ (u ∷ []) → is_sign mark.Open t ≡ true → Makes expression d ts e → is_sign mark.Close u ≡ true
       → Makes operand (suc d) (t ∷ ws) e

@@ -1,16 +1,18 @@
 -- What a line means under the names that are declared: its form with numbers, and the names after it; or its first flaw.
-use Rattle.std.specs.Prelude.{ℕ, ◌+◌, Bool, true, false, cond, List, [], ◌∷◌, ◌++◌, map, length, ℤ, pos, negsuc, Some, None, Ok, Err, Option, ◌==◌, nat_lt}
+use Rattle.std.specs.Prelude.{ℕ, ◌+◌, Bool, false, cond, List, [], ◌∷◌, ◌++◌, map, length, ℤ, pos, negsuc, Some, None, Ok, Err, Option, ◌==◌, nat_lt}
+use Rattle.std.specs.List.{list_any}
 use Rattle.expressions.specs.Expression.{Expression, shape}
 use Rattle.rules.specs.declared.Kind.{Kind}
 use Rattle.rules.specs.declared.Kind.TheVariants.{Internal, Outgoing, Incoming}
 use Rattle.lines.specs.Answer.{Answer, onward}
 use Rattle.lines.specs.Syntax as line
 use Rattle.lines.specs.Syntax.{Naming, Phrase, Sentence}
-use Rattle.lines.specs.Table.{Table, channel_at, clash, resolved, table, variable_at}
+use Rattle.lines.specs.Table.{Linked, Table, channel_at, clash, resolved, table, variable_at}
 use Rattle.lines.specs.Types.{of_type}
 use Rattle.lines.specs.declared.forms.Form.{Form}
 use Rattle.lines.specs.declared.forms.Form.TheVariants as form
-use Rattle.lines.specs.declared.names.Link.{Link}
+use Rattle.lines.specs.declared.judgement.Access.{Access}
+use Rattle.lines.specs.declared.judgement.Access.TheVariants.{Read, Write}
 use Rattle.lines.specs.declared.names.Names.{Names}
 use Rattle.lines.specs.declared.refusal.Flaw.TheVariants.{Name, TooMany, Link as Misplaced}
 use Rattle.lines.specs.declared.syntax.Lone.{Lone}
@@ -34,14 +36,14 @@ pub data Formed : Type 0 where
 abbrev pub formed : Form → Formed
 formed (form.Variables first count) = variables first count
 formed (form.Channels first count) = channels first count
-formed (form.Place c a) = place c a
+formed (form.Place c a) = place c.number a
 formed (form.Lone l) = lone l
 formed (form.Assign x e) = assign x.number (shape e)
-formed (form.Input c x) = input c x.number
-formed (form.Output c e) = output c (shape e)
+formed (form.Input c x) = input c.number x.number
+formed (form.Output c e) = output c.number (shape e)
 formed (form.While e) = while (shape e)
 formed (form.Choice e) = choice (shape e)
-formed (form.Guard e c x) = guard (shape e) c x.number
+formed (form.Guard e c x) = guard (shape e) c.number x.number
 formed (form.SkipGuard e) = skip_guard (shape e)
 
 -- what a form of the code stands for, and the names after it
@@ -72,19 +74,23 @@ abbrev pub unclashed : Option ℕ → Answer (Unit {0})
 unclashed None = Ok tt
 unclashed (Some byte) = Err (Name byte)
 
+-- names that go behind others: the number of the first, and how many they are
+abbrev pub added : List (List ℕ) → List Naming → Answer (ℕ × ℕ)
+added old ns = onward (counted (length old) (length ns)) (λ _. Ok (length old, length ns))
+
 -- INT names: each is new, and there is room
 abbrev pub variables_by : Table → List Naming → Answer (Formed × Table)
 variables_by t ns =
     onward (unclashed (clash t ns)) (λ _.
-    onward (counted (length t.variables) (length ns)) (λ _.
-    Ok (variables (length t.variables) (length ns), with_variables t ns)))
+    onward (added t.variables ns) (λ p.
+    Ok (variables p.0 p.1, with_variables t ns)))
 
 -- CHAN OF INT names: each is new, and there is room
 abbrev pub channels_by : Table → List Naming → Answer (Formed × Table)
 channels_by t ns =
     onward (unclashed (clash t ns)) (λ _.
-    onward (counted (length t.channels) (length ns)) (λ _.
-    Ok (channels (length t.channels) (length ns), with_channels t ns)))
+    onward (added t.channels ns) (λ p.
+    Ok (channels p.0 p.1, with_channels t ns)))
 
 -- the address that a number is: 0 to 7
 abbrev pub address_at : ℤ → Answer ℕ
@@ -102,9 +108,8 @@ placed_at a (Outgoing b) = b == a
 placed_at a (Incoming b) = b == a
 
 -- whether any channel is placed at the address
-abbrev pub any_placed_at : ℕ → List Link → Bool
-any_placed_at a [] = false
-any_placed_at a (l ∷ ls) = cond (placed_at a l.kind) true (any_placed_at a ls)
+abbrev pub any_placed_at : ℕ → List Linked → Bool
+any_placed_at a ls = list_any (λ l. placed_at a l.kind) ls
 
 -- a channel that is no link yet
 abbrev pub unplaced : Kind → Answer (Unit {0})
@@ -113,7 +118,7 @@ unplaced (Outgoing a) = Err Misplaced
 unplaced (Incoming a) = Err Misplaced
 
 -- an address at which no channel is placed yet
-abbrev pub vacant : ℕ → List Link → Answer (Unit {0})
+abbrev pub vacant : ℕ → List Linked → Answer (Unit {0})
 vacant a ls = cond (any_placed_at a ls) (Err Misplaced) (Ok tt)
 
 -- PLACE channel AT number: neither the channel nor the address is placed yet
@@ -136,6 +141,11 @@ abbrev pub writable : Kind → Answer (Unit {0})
 writable Internal = Ok tt
 writable (Outgoing a) = Ok tt
 writable (Incoming a) = Err Misplaced
+
+-- a channel that can be read, or written
+abbrev pub accessible : Access → Kind → Answer (Unit {0})
+accessible Read k = readable k
+accessible Write k = writable k
 
 -- variable := expression
 abbrev pub assign_by : Table → Naming → Phrase → Answer Formed

@@ -8,6 +8,7 @@ pub mod Sentences
 pub mod Table
 pub mod Types
 pub mod Judgement
+pub mod Written
 pub mod Grammar
 pub mod Lines
 pub mod Law

@@ -1,8 +1,7 @@
 -- A line of the text under the names that are declared, as a computation: its level and form, and the names after it; or its fault.
-use Rattle.std.specs.Prelude.{◌≡◌, ℕ, ◌⊎◌, List, [], ◌∷◌, map, Some, None, Ok, Err, vec_items, Option, Result}
+use Rattle.std.specs.Prelude.{◌≡◌, ℕ, ◌⊎◌, List, [], ◌∷◌, Some, None, Ok, Err, Option, Result}
 use Rattle.words.specs.Reading.{Reading, line_of}
-use Rattle.words.specs.Token.{Token, token}
-use Rattle.words.specs.declared.reading.Row.{Row}
+use Rattle.words.specs.Token.{Token}
 use Rattle.words.specs.declared.refusal.WordFault.{WordFault}
 use Rattle.lines.specs.Answer.{Answer, onward}
 use Rattle.lines.specs.Fault.{from_words, in_line}
@@ -49,10 +48,6 @@ after_words t n (Err e) = Err e
 -- line n, which has the bytes s, where the names of t are declared
 abbrev pub line_form_of : Table → ℕ → List ℕ → Result (Option Stated × Table) LineFault
 line_form_of t n s = after_words t n (row_of (line_of n s))
-
--- what the words of the code stand for
-abbrev pub row_reading : Row → Reading
-row_reading r = record { level = r.level; words = map token (vec_items r.words) }
 
 abbrev pub stated : Option Statement → Option Stated
 stated None = None

@@ -1,16 +1,16 @@
 -- The expression at the front of some words, as a computation. The rules that it obeys are in Grammar.
-use Rattle.std.specs.Prelude.{ℕ, zero, suc, cond, List, [], ◌∷◌, map, Some, None, Ok, Err, Option}
+use Rattle.std.specs.Prelude.{◌≡◌, ℕ, zero, suc, Bool, cond, List, [], ◌∷◌, map, Some, None, Ok, Err, ok_or, option_map, Option}
 use Rattle.std.specs.Borrow.{Bor}
 use Rattle.expressions.specs.declared.Dyadic.{Dyadic}
+use Rattle.expressions.specs.declared.Expr.{Expr}
 use Rattle.words.specs.Token.{Token, token}
+use Rattle.words.specs.declared.vocabulary.Sign.TheVariants.{Close}
 use Rattle.words.specs.declared.vocabulary.Word.{Word}
 use Rattle.lines.specs.Answer.{Answer, onward}
-use Rattle.lines.specs.Roles.{Start, of_name, of_number, of_truth, bracket, stranger, leaf_of, prefix_of, operator_of, is_point}
+use Rattle.lines.specs.Roles.{Start, of_name, of_number, of_truth, bracket, leaf_of, prefix_of, operator_of, is_sign}
 use Rattle.lines.specs.Syntax.{Phrase, name, number, truth, negative, negation, dyadic, phrase}
 use Rattle.lines.specs.declared.refusal.Flaw.TheVariants.{NoForm}
-use Rattle.lines.specs.declared.syntax.Term.{Term}
-use Rattle.lines.specs.declared.vocabulary.Point.{Point}
-use Rattle.lines.specs.declared.vocabulary.Point.TheVariants.{Close}
+use Rattle.lines.specs.declared.syntax.Mention.{Mention}
 use Rattle.lines.specs.declared.vocabulary.Prefix.{Prefix}
 use Rattle.lines.specs.declared.vocabulary.Prefix.TheVariants.{Minus, Not}
 
@@ -18,14 +18,25 @@ use Rattle.lines.specs.declared.vocabulary.Prefix.TheVariants.{Minus, Not}
 abbrev pub Read : Type 0 → Type 0
 Read A = Answer (A × List Token)
 
+-- what the first word is by `role`, and the words after it
+abbrev pub first : {A : Type 0} → (Token → Option A) → List Token → Read A
+first role [] = Err NoForm
+first role (t ∷ ts) = ok_or (option_map (λ x. (x, ts)) (role t)) NoForm
+
+-- the answer r of the code is that of the first of some words, where Is says what a word may be
+abbrev pub FirstIs : {T : Type 0} → (Word → Option T → Type 0) → List Word → Answer (T × Bor (List Word)) → Type 0
+FirstIs Is [] r = r ≡ Err NoForm
+FirstIs Is (w ∷ ws) (Ok p) = Is w (Some p.0) × (p.1.now ≡ ws)
+FirstIs Is (w ∷ ws) (Err f) = Is w None × (f ≡ NoForm)
+
 -- the words after one that has to stand there
-abbrev pub past : Point → List Token → Answer (List Token)
-past p [] = Err NoForm
-past p (t ∷ ts) = cond (is_point p t) (Ok ts) (Err NoForm)
+abbrev pub past : (Token → Bool) → List Token → Answer (List Token)
+past is [] = Err NoForm
+past is (t ∷ ts) = cond (is t) (Ok ts) (Err NoForm)
 
 -- what stood in brackets, and what is left after the closing one
 abbrev pub closed : Phrase × List Token → Read Phrase
-closed r = onward (past Close r.1) (λ ts. Ok (r.0, ts))
+closed r = onward (past (is_sign Close) r.1) (λ ts. Ok (r.0, ts))
 
 -- an operand by its first word, of which the part in brackets is read by k
 abbrev pub operand_at : Start → (List Token → Read Phrase) → List Token → Read Phrase
@@ -33,11 +44,9 @@ operand_at (of_name n) k ts = Ok (name n, ts)
 operand_at (of_number z) k ts = Ok (number z, ts)
 operand_at (of_truth b) k ts = Ok (truth b, ts)
 operand_at bracket k ts = k ts
-operand_at stranger k ts = Err NoForm
 
 abbrev pub operand_by : (List Token → Read Phrase) → List Token → Read Phrase
-operand_by k [] = Err NoForm
-operand_by k (t ∷ ts) = operand_at (leaf_of t) k ts
+operand_by k ts = onward (first leaf_of ts) (λ r. operand_at r.0 k r.1)
 
 -- `-` or NOT before an operand
 abbrev pub with_prefix : Prefix → Phrase → Phrase
@@ -80,5 +89,5 @@ abbrev pub words_left : Bor (List Word) → List Token
 words_left r = map token r.now
 
 -- what a term that was read stands for, and the words that are left
-abbrev pub term_read : Term × Bor (List Word) → Phrase × List Token
+abbrev pub term_read : Expr Mention × Bor (List Word) → Phrase × List Token
 term_read p = (phrase p.0, words_left p.1)

@@ -1,12 +1,12 @@
 -- A line as it is written: the names stand in it with their bytes and places.
 use Rattle.std.specs.Prelude.{ℕ, Bool, List, map, ℤ, vec_items}
 use Rattle.expressions.specs.declared.Dyadic.{Dyadic}
+use Rattle.expressions.specs.declared.Expr.{Expr}
+use Rattle.expressions.specs.declared.Expr.TheVariants as expr
 use Rattle.lines.specs.declared.syntax.Draft.{Draft}
 use Rattle.lines.specs.declared.syntax.Draft.TheVariants as draft
 use Rattle.lines.specs.declared.syntax.Lone.{Lone}
 use Rattle.lines.specs.declared.syntax.Mention.{Mention}
-use Rattle.lines.specs.declared.syntax.Term.{Term}
-use Rattle.lines.specs.declared.syntax.Term.TheVariants as term
 
 -- a name where it stands
 pub record Naming : Type 0 where
@@ -45,13 +45,13 @@ abbrev pub mention_text : Mention → List ℕ
 mention_text m = m.text.now
 
 -- what a tree of the code stands for
-abbrev pub phrase : Term → Phrase
-phrase (term.Name m) = name (naming m)
-phrase (term.Number z) = number z
-phrase (term.Truth b) = truth b
-phrase (term.Negative' p e) = negative (phrase e)
-phrase (term.Negation' p e) = negation (phrase e)
-phrase (term.Dyadic' op p a q b) = dyadic op (phrase a) (phrase b)
+abbrev pub phrase : Expr Mention → Phrase
+phrase (expr.Name m) = name (naming m)
+phrase (expr.Number z) = number z
+phrase (expr.Truth b) = truth b
+phrase (expr.Negative' p e) = negative (phrase e)
+phrase (expr.Negation' p e) = negation (phrase e)
+phrase (expr.Dyadic' op p a q b) = dyadic op (phrase a) (phrase b)
 
 -- what a draft of the code stands for
 abbrev pub sentence : Draft → Sentence

@@ -1,36 +1,45 @@
 -- The names that are declared, and what a line may do with a name.
-use Rattle.std.specs.Prelude.{ℕ, Bool, cond, ◌||◌, List, [], ◌∷◌, ◌++◌, map, is_some, Some, None, Ok, Err, vec_items, Option, ◌==◌}
+use Rattle.std.specs.Prelude.{ℕ, Bool, cond, ◌||◌, List, [], ◌∷◌, ◌++◌, map, is_some, Some, None, Ok, Err, vec_items, Option, ◌==◌, find}
+use Rattle.std.specs.Borrow.{Bor}
+use Rattle.std.specs.Option.{option_map_or}
 use Rattle.expressions.specs.Expression as expression
 use Rattle.expressions.specs.Expression.{Expression}
-use Rattle.expressions.specs.declared.variables.Variable.{Variable}
+use Rattle.numbers.specs.Kinds.{Channel, Variable}
 use Rattle.rules.specs.declared.Kind.{Kind}
-use Rattle.rules.specs.declared.numbers.Channel.{Channel}
 use Rattle.rules.specs.declared.Kind.TheVariants.{Internal}
 use Rattle.lines.specs.Answer.{Answer, onward}
 use Rattle.lines.specs.Found.{found}
 use Rattle.lines.specs.Syntax.{Naming, Phrase, name, number, truth, negative, negation, dyadic}
-use Rattle.lines.specs.declared.names.ChannelRow.{ChannelRow}
 use Rattle.lines.specs.declared.names.Link.{Link}
+use Rattle.lines.specs.declared.names.NameList.{NameList}
 use Rattle.lines.specs.declared.names.Names.{Names}
-use Rattle.lines.specs.declared.names.VariableRow.{VariableRow}
 use Rattle.lines.specs.declared.refusal.Flaw.TheVariants.{Name}
-use Rattle.lines.specs.declared.syntax.Mention.{Mention}
+
+-- a channel that is a link, by its number
+pub record Linked : Type 0 where
+  pub channel : ℕ
+  pub kind : Kind
 
 -- the names of variables and of channels, whose place in the list is their number, and the channels that are links
 pub record Table : Type 0 where
   pub variables : List (List ℕ)
   pub channels : List (List ℕ)
-  pub links : List Link
+  pub links : List Linked
 
-abbrev pub variable_name : VariableRow → List ℕ
-variable_name v = v.name.now
+abbrev pub name_bytes : Bor (List ℕ) → List ℕ
+name_bytes n = n.now
 
-abbrev pub channel_name : ChannelRow → List ℕ
-channel_name c = c.name.now
+-- what a list of names of the code stands for
+abbrev pub listed : NameList → List (List ℕ)
+listed l = map name_bytes (vec_items l.names)
+
+-- what a link of the code stands for
+abbrev pub linked : Link → Linked
+linked l = record { channel = l.channel.number; kind = l.kind }
 
 -- what the tables of the code stand for
 abbrev pub table : Names → Table
-table ns = record { variables = map variable_name (vec_items ns.variables); channels = map channel_name (vec_items ns.channels); links = vec_items ns.links }
+table ns = record { variables = listed ns.variables; channels = listed ns.channels; links = map linked (vec_items ns.links) }
 
 abbrev pub number_or : ℕ → Option ℕ → Answer ℕ
 number_or byte None = Err (Name byte)
@@ -48,11 +57,10 @@ abbrev pub variable_at : Table → Naming → Answer ℕ
 variable_at t n = number_or n.byte (found t.variables n.text)
 
 -- what a channel is: a link where it is placed, else internal
-abbrev pub kind_in : List Link → ℕ → Kind
-kind_in [] c = Internal
-kind_in (l ∷ ls) c = cond (l.channel == c) l.kind (kind_in ls c)
+abbrev pub kind_in : List Linked → ℕ → Kind
+kind_in ls c = option_map_or (λ l. l.kind) (find (λ l. l.channel == c) ls) Internal
 
-abbrev pub kind_or : ℕ → List Link → Option ℕ → Answer (ℕ × Kind)
+abbrev pub kind_or : ℕ → List Linked → Option ℕ → Answer (ℕ × Kind)
 kind_or byte ls None = Err (Name byte)
 kind_or byte ls (Some k) = Ok (k, kind_in ls k)
 
@@ -85,11 +93,3 @@ clash_from t seen (n ∷ ns) = cond (clashing t seen n.text) (Some n.byte) (clas
 -- the place of the first name that is declared twice
 abbrev pub clash : Table → List Naming → Option ℕ
 clash t ns = clash_from t [] ns
-
--- the row of the code for a variable
-abbrev pub variable_row : Mention → VariableRow
-variable_row m = record { name = m.text }
-
--- the row of the code for a channel
-abbrev pub channel_row : Mention → ChannelRow
-channel_row m = record { name = m.text }

@@ -1,18 +1,19 @@
 // The form of a line as it is written, from its words.
-ghost use Rattle.std.specs.Prelude.{◌≡◌, map};
+ghost use Rattle.std.specs.Prelude.{◌≡◌, map, option_map};
 ghost use Rattle.words.specs.Token.{token};
 ghost use Rattle.lines.specs.Answer.{answered, UnlessMemory};
-ghost use Rattle.lines.specs.Sentences.{acted_of, action_of, action_read, address_of, before_all, channels_of, condition_of, ended, guarded_of, input_of, mention_read, mentions_read, name_first, name_last, names_of, namings, number_first, number_read, place_of, process_of, sentence_by, sentence_of, whole_of};
+ghost use Rattle.lines.specs.Sentences.{acted_of, action_of, action_read, address_of, channels_of, condition_of, ended, guarded_of, input_of, mentions_read, name_last, names_of, namings, opened_by, place_of, process_of, sentence_of, whole_of};
 ghost use Rattle.lines.specs.Syntax.{naming, phrase, sentence};
 
-use crate::phrases::{expect, expression, next};
+use crate::phrases::{expect, expression, first};
 use crate::refusal::Flaw;
-use crate::syntax::{Draft, Lone, Mention, Term};
+use crate::syntax::{Draft, Lone, Mention};
 use crate::vocabulary::{
-    Opening, Point, Separator, Verb, is_point, mention_of, opening_of, separator_of, verb_of,
+    Fixed, Opening, Separator, Verb, mention_of, number_of, opening_of, separator_of, verb_of,
 };
+use expressions::Expr;
 use std::alloc::Global;
-use words::Word;
+use words::{Keyword, Sign, Word};
 
 // How deep brackets may be.
 const DEPTH: u8 = 8;
@@ -21,22 +22,10 @@ const DEPTH: u8 = 8;
 fn end(words: &[Word<'_>]) -> Result<(), Flaw>
     ensures { result ≡ ended tt (map token words.now) }
 {
-    match next(words) {
-        None => Ok(()),
-        Some(_) => Err(Flaw::NoForm),
-    }
-}
-
-// A name, and the words that are left.
-fn name_first<'w, 'a>(words: &'w [Word<'a>]) -> Result<(Mention<'a>, &'w [Word<'a>]), Flaw>
-    ensures { answered mention_read result ≡ name_first (map token words.now) }
-{
-    let Some((word, rest)) = next(words) else {
-        return Err(Flaw::NoForm);
-    };
-    match mention_of(word) {
-        Some(mention) => Ok((mention, rest)),
-        None => Err(Flaw::NoForm),
+    if words.is_empty() {
+        Ok(())
+    } else {
+        Err(Flaw::NoForm)
     }
 }
 
@@ -44,13 +33,13 @@ fn name_first<'w, 'a>(words: &'w [Word<'a>]) -> Result<(Mention<'a>, &'w [Word<'
 fn name_last<'a>(words: &[Word<'a>]) -> Result<Mention<'a>, Flaw>
     ensures { answered naming result ≡ name_last (map token words.now) }
 {
-    let (mention, rest) = name_first(words)?;
+    let (mention, rest) = first(words, mention_of)?;
     end(rest)?;
     Ok(mention)
 }
 
 // An expression, and no word after it.
-fn whole<'a>(heap: Global, words: &[Word<'a>]) -> Result<Term<'a>, Flaw>
+fn whole<'a>(heap: Global, words: &[Word<'a>]) -> Result<Expr<Mention<'a>>, Flaw>
     ensures { UnlessMemory (answered phrase result) (whole_of (map token words.now)) }
 {
     let (term, rest) = expression(heap, words, DEPTH)?;
@@ -58,25 +47,12 @@ fn whole<'a>(heap: Global, words: &[Word<'a>]) -> Result<Term<'a>, Flaw>
     Ok(term)
 }
 
-// A number, and the words that are left.
-fn number_first<'w, 'a>(words: &'w [Word<'a>]) -> Result<(i32, &'w [Word<'a>]), Flaw>
-    ensures { answered number_read result ≡ number_first (map token words.now) }
-{
-    let Some((word, rest)) = next(words) else {
-        return Err(Flaw::NoForm);
-    };
-    match word {
-        Word::Number { value, .. } => Ok((value, rest)),
-        _ => Err(Flaw::NoForm),
-    }
-}
-
 // A number and a colon, and no word after them.
 fn address(words: &[Word<'_>]) -> Result<i32, Flaw>
     ensures { result ≡ address_of (map token words.now) }
 {
-    let (number, after) = number_first(words)?;
-    let rest = expect(Point::Colon, after)?;
+    let (number, after) = first(words, number_of)?;
+    let rest = expect(Fixed::Sign(Sign::Colon), after)?;
     end(rest)?;
     Ok(number)
 }
@@ -85,8 +61,8 @@ fn address(words: &[Word<'_>]) -> Result<i32, Flaw>
 fn placement<'a>(words: &[Word<'a>]) -> Result<Draft<'a>, Flaw>
     ensures { answered sentence result ≡ place_of (map token words.now) }
 {
-    let (channel, after) = name_first(words)?;
-    let rest = expect(Point::At, after)?;
+    let (channel, after) = first(words, mention_of)?;
+    let rest = expect(Fixed::Keyword(Keyword::At), after)?;
     let number = address(rest)?;
     Ok(Draft::Place(channel, number))
 }
@@ -95,53 +71,46 @@ fn placement<'a>(words: &[Word<'a>]) -> Result<Draft<'a>, Flaw>
 fn input<'a>(words: &[Word<'a>]) -> Result<(Mention<'a>, Mention<'a>), Flaw>
     ensures { answered mentions_read result ≡ input_of (map token words.now) }
 {
-    let (channel, after) = name_first(words)?;
-    let rest = expect(Point::Input, after)?;
+    let (channel, after) = first(words, mention_of)?;
+    let rest = expect(Fixed::Sign(Sign::Input), after)?;
     let variable = name_last(rest)?;
     Ok((channel, variable))
-}
-
-// The names of a list, after those that have been read.
-fn listed<'a>(mut list: Vec<Mention<'a>>, words: &[Word<'a>]) -> Result<Vec<Mention<'a>>, Flaw>
-    ensures { UnlessMemory (answered namings result) (before_all (namings list.entry) (names_of (map token words.now))) }
-{
-    let (mention, after) = name_first(words)?;
-    let Some((word, rest)) = next(after) else {
-        return Err(Flaw::NoForm);
-    };
-    list.push(mention)?;
-    match separator_of(word) {
-        Some(Separator::Comma) => listed(list, rest),
-        Some(Separator::Colon) => {
-            end(rest)?;
-            Ok(list)
-        }
-        None => Err(Flaw::NoForm),
-    }
 }
 
 // Names parted by commas, with a colon at the end.
 fn names<'a>(heap: Global, words: &[Word<'a>]) -> Result<Vec<Mention<'a>>, Flaw>
     ensures { UnlessMemory (answered namings result) (names_of (map token words.now)) }
 {
-    listed(Vec::new(heap), words)
+    let mut list = Vec::new(heap);
+    let mut left = words;
+    while let [name, sign, ..] = left {
+        let mention = mention_of(*name).ok_or(Flaw::NoForm)?;
+        let separator = separator_of(*sign).ok_or(Flaw::NoForm)?;
+        list.push(mention)?;
+        left = &left[2..];
+        if separator == Separator::Colon {
+            end(left)?;
+            return Ok(list);
+        }
+    }
+    Err(Flaw::NoForm)
 }
 
 // OF INT and names.
 fn channels<'a>(heap: Global, words: &[Word<'a>]) -> Result<Draft<'a>, Flaw>
     ensures { UnlessMemory (answered sentence result) (channels_of (map token words.now)) }
 {
-    let after = expect(Point::Of, words)?;
-    let rest = expect(Point::Int, after)?;
+    let after = expect(Fixed::Keyword(Keyword::Of), words)?;
+    let rest = expect(Fixed::Keyword(Keyword::Int), after)?;
     let list = names(heap, rest)?;
     Ok(Draft::Channels(list))
 }
 
 // What stands after `&`: SKIP or an input.
-fn guarded<'a>(condition: Term<'a>, words: &[Word<'a>]) -> Result<Draft<'a>, Flaw>
+fn guarded<'a>(condition: Expr<Mention<'a>>, words: &[Word<'a>]) -> Result<Draft<'a>, Flaw>
     ensures { answered sentence result ≡ guarded_of (phrase condition.entry) (map token words.now) }
 {
-    if let Ok(rest) = expect(Point::Skip, words) {
+    if let Ok(rest) = expect(Fixed::Keyword(Keyword::Skip), words) {
         end(rest)?;
         return Ok(Draft::SkipGuard(condition));
     }
@@ -154,25 +123,21 @@ fn conditional<'a>(heap: Global, words: &[Word<'a>]) -> Result<Draft<'a>, Flaw>
     ensures { UnlessMemory (answered sentence result) (condition_of (map token words.now)) }
 {
     let (condition, rest) = expression(heap, words, DEPTH)?;
-    let Some((word, after)) = next(rest) else {
+    if rest.is_empty() {
         return Ok(Draft::Choice(condition));
-    };
-    if is_point(Point::Guard, word) {
-        guarded(condition, after)
-    } else {
-        Err(Flaw::NoForm)
     }
+    let after = expect(Fixed::Sign(Sign::Guard), rest)?;
+    guarded(condition, after)
 }
 
 // A name and `:=`, `?` or `!`, and the words after them.
 fn action<'w, 'a>(words: &'w [Word<'a>]) -> Option<(Mention<'a>, Verb, &'w [Word<'a>])>
-    ensures { action_read result ≡ action_of (map token words.now) }
+    ensures { option_map action_read result ≡ action_of (map token words.now) }
 {
-    let (first, after) = next(words)?;
-    let (second, rest) = next(after)?;
-    let mention = mention_of(first)?;
-    let verb = verb_of(second)?;
-    Some((mention, verb, rest))
+    let [first, second, rest @ ..] = words else {
+        return None;
+    };
+    Some((mention_of(*first)?, verb_of(*second)?, rest))
 }
 
 fn acted<'a>(
@@ -210,13 +175,8 @@ fn process<'a>(heap: Global, words: &[Word<'a>]) -> Result<Draft<'a>, Flaw>
 }
 
 // The line that begins so, of which `rest` are the words after the first.
-fn opened<'a>(
-    heap: Global,
-    opening: Opening,
-    words: &[Word<'a>],
-    rest: &[Word<'a>],
-) -> Result<Draft<'a>, Flaw>
-    ensures { UnlessMemory (answered sentence result) (sentence_by opening (map token words.now) (map token rest.now)) }
+fn opened<'a>(heap: Global, opening: Opening, rest: &[Word<'a>]) -> Result<Draft<'a>, Flaw>
+    ensures { UnlessMemory (answered sentence result) (opened_by opening (map token rest.now)) }
 {
     match opening {
         Opening::Int => {
@@ -230,7 +190,7 @@ fn opened<'a>(
             Ok(Draft::While(condition))
         }
         Opening::Pri => {
-            let after = expect(Point::Alt, rest)?;
+            let after = expect(Fixed::Keyword(Keyword::Alt), rest)?;
             end(after)?;
             Ok(Draft::Lone(Lone::PriAlt))
         }
@@ -238,7 +198,6 @@ fn opened<'a>(
             end(rest)?;
             Ok(Draft::Lone(lone))
         }
-        Opening::Other => process(heap, words),
     }
 }
 
@@ -246,8 +205,9 @@ fn opened<'a>(
 pub fn draft_of<'a>(heap: Global, words: &[Word<'a>]) -> Result<Draft<'a>, Flaw>
     ensures { UnlessMemory (answered sentence result) (sentence_of (map token words.now)) }
 {
-    let Some((first, rest)) = next(words) else {
-        return Err(Flaw::NoForm);
-    };
-    opened(heap, opening_of(first), words, rest)
+    let (word, rest) = words.split_first().ok_or(Flaw::NoForm)?;
+    match opening_of(*word) {
+        Some(opening) => opened(heap, opening, rest),
+        None => process(heap, words),
+    }
 }

@@ -1,6 +1,12 @@
 // The form of a line, its names as numbers.
+ghost use Rattle.std.specs.Prelude.{Some};
+ghost use Rattle.lines.specs.Judgement.{formed};
+ghost use Rattle.lines.specs.Written.{form_text};
+
 use crate::syntax::Lone;
 use expressions::{Expr, Variable};
+use rules::Channel;
+use std::fmt;
 
 #[derive(Drop)]
 pub enum Form {
@@ -16,7 +22,7 @@ pub enum Form {
     },
     // PLACE channel AT address:
     Place {
-        channel: u8,
+        channel: Channel,
         address: u8,
     },
     // SKIP, STOP, SEQ, PAR, IF, ALT or PRI ALT
@@ -24,34 +30,59 @@ pub enum Form {
     // variable := value
     Assign {
         variable: Variable,
-        value: Expr,
+        value: Expr<Variable>,
     },
     // channel ? variable
     Input {
-        channel: u8,
+        channel: Channel,
         variable: Variable,
     },
     // channel ! value
     Output {
-        channel: u8,
-        value: Expr,
+        channel: Channel,
+        value: Expr<Variable>,
     },
     // WHILE condition
     While {
-        condition: Expr,
+        condition: Expr<Variable>,
     },
     // a condition alone
     Choice {
-        condition: Expr,
+        condition: Expr<Variable>,
     },
     // condition & channel ? variable
     Guard {
-        condition: Expr,
-        channel: u8,
+        condition: Expr<Variable>,
+        channel: Channel,
         variable: Variable,
     },
     // condition & SKIP
     SkipGuard {
-        condition: Expr,
+        condition: Expr<Variable>,
     },
+}
+
+// The form as text, variable n as `vn` and channel n as `cn`.
+impl fmt::Display for Form {
+    ghost output = { λ form. Some (form_text (formed form)) };
+
+    fn fmt<W: fmt::Write>(&self, f: &mut fmt::Formatter<W>) -> fmt::Result {
+        match self {
+            Form::Variables { first, count } => write!(f, "INT {count} from v{first}"),
+            Form::Channels { first, count } => write!(f, "CHAN OF INT {count} from c{first}"),
+            Form::Place { channel, address } => write!(f, "PLACE {channel} AT {address}"),
+            Form::Lone(lone) => write!(f, "{lone}"),
+            Form::Assign { variable, value } => write!(f, "{variable} := {value}"),
+            Form::Input { channel, variable } => write!(f, "{channel} ? {variable}"),
+            Form::Output { channel, value } => write!(f, "{channel} ! {value}"),
+            Form::While { condition } => write!(f, "WHILE {condition}"),
+            Form::Choice { condition } => write!(f, "{condition}"),
+            Form::Guard {
+                condition,
+                channel,
+                variable,
+            } => write!(f, "{condition} & {channel} ? {variable}"),
+            Form::SkipGuard { condition } => write!(f, "{condition} & SKIP"),
+        }
+    }
 }

@@ -2,7 +2,7 @@
 ghost use Rattle.std.specs.Prelude.{◌≡◌, OnErr};
 ghost use Rattle.expressions.specs.Expression.{shape};
 ghost use Rattle.lines.specs.Answer.{answered, UnlessMemory};
-ghost use Rattle.lines.specs.Judgement.{assign_by, condition_by, formed, formed_with, guard_by, input_by, judged, output_by, readable, writable};
+ghost use Rattle.lines.specs.Judgement.{accessible, assign_by, condition_by, formed, formed_with, guard_by, input_by, judged, output_by};
 ghost use Rattle.lines.specs.Syntax.{naming, phrase, sentence};
 ghost use Rattle.lines.specs.Table.{table};
 
@@ -11,29 +11,26 @@ use crate::forms::Form;
 use crate::names::Names;
 use crate::refusal::Flaw;
 use crate::resolution::{channel, resolve, variable};
-use crate::syntax::{Draft, Mention, Term};
+use crate::syntax::{Draft, Mention};
 use crate::types::{Sort, demand};
-use expressions::Expr;
+use expressions::{Expr, Variable};
 use rules::Kind;
 use std::alloc::Global;
 
-// A channel that can be read.
-fn is_readable(kind: Kind) -> Result<(), Flaw>
-    ensures { result ≡ readable kind }
-{
-    match kind {
-        Kind::Internal | Kind::Incoming(_) => Ok(()),
-        Kind::Outgoing(_) => Err(Flaw::Link),
-    }
+// What a line does with a channel.
+#[derive(Clone, Copy, Debug, PartialEq, Eq)]
+enum Access {
+    Read,
+    Write,
 }
 
-// A channel that can be written.
-fn is_writable(kind: Kind) -> Result<(), Flaw>
-    ensures { result ≡ writable kind }
+// The channel has to be no link in the other direction.
+fn permit(access: Access, kind: Kind) -> Result<(), Flaw>
+    ensures { result ≡ accessible access kind }
 {
-    match kind {
-        Kind::Internal | Kind::Outgoing(_) => Ok(()),
-        Kind::Incoming(_) => Err(Flaw::Link),
+    match (access, kind) {
+        (Access::Read, Kind::Outgoing(_)) | (Access::Write, Kind::Incoming(_)) => Err(Flaw::Link),
+        _ => Ok(()),
     }
 }
 
@@ -42,7 +39,7 @@ fn assignment(
     heap: Global,
     names: &Names<'_>,
     target: Mention<'_>,
-    term: Term<'_>,
+    term: Expr<Mention<'_>>,
 ) -> Result<Form, Flaw>
     ensures { UnlessMemory (answered formed result) (assign_by (table names.now) (naming target.entry) (phrase term.entry)) }
 {
@@ -58,7 +55,7 @@ fn input(names: &Names<'_>, source: Mention<'_>, target: Mention<'_>) -> Result<
 {
     let (channel, kind) = channel(names, source)?;
     let variable = variable(names, target)?;
-    is_readable(kind)?;
+    permit(Access::Read, kind)?;
     Ok(Form::Input { channel, variable })
 }
 
@@ -67,19 +64,23 @@ fn output(
     heap: Global,
     names: &Names<'_>,
     target: Mention<'_>,
-    term: Term<'_>,
+    term: Expr<Mention<'_>>,
 ) -> Result<Form, Flaw>
     ensures { UnlessMemory (answered formed result) (output_by (table names.now) (naming target.entry) (phrase term.entry)) }
 {
     let (channel, kind) = channel(names, target)?;
     let value = resolve(heap, names, &term)?;
     demand(Sort::Int, &term)?;
-    is_writable(kind)?;
+    permit(Access::Write, kind)?;
     Ok(Form::Output { channel, value })
 }
 
 // A condition.
-fn condition(heap: Global, names: &Names<'_>, term: Term<'_>) -> Result<Expr, Flaw>
+fn condition(
+    heap: Global,
+    names: &Names<'_>,
+    term: Expr<Mention<'_>>,
+) -> Result<Expr<Variable>, Flaw>
     ensures { UnlessMemory (answered shape result) (condition_by (table names.now) (phrase term.entry)) }
 {
     let value = resolve(heap, names, &term)?;
@@ -91,7 +92,7 @@ fn condition(heap: Global, names: &Names<'_>, term: Term<'_>) -> Result<Expr, Fl
 fn guarded(
     heap: Global,
     names: &Names<'_>,
-    term: Term<'_>,
+    term: Expr<Mention<'_>>,
     source: Mention<'_>,
     target: Mention<'_>,
 ) -> Result<Form, Flaw>
@@ -101,7 +102,7 @@ fn guarded(
     let (channel, kind) = channel(names, source)?;
     let variable = variable(names, target)?;
     demand(Sort::Truth, &term)?;
-    is_readable(kind)?;
+    permit(Access::Read, kind)?;
     Ok(Form::Guard {
         condition,
         channel,

@@ -5,6 +5,7 @@ mod declaration;
 mod drafts;
 mod forms;
 mod judgement;
+mod name_list;
 mod names;
 mod phrases;
 mod reading;
@@ -18,7 +19,7 @@ mod vocabulary;
 
 pub use forms::Form;
 pub use names::Names;
-pub use reading::{Statement, no_names, read_form};
+pub use reading::{Statement, read_form};
 pub use refusal::LineFault;
 pub use search::{Named, find};
 pub use syntax::Lone;

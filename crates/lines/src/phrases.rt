@@ -1,58 +1,55 @@
 // The expression reader: `expression` and `operand` call each other, and the depth that is left for brackets falls.
-ghost use Rattle.std.specs.Prelude.{◌≡◌, [], ◌∷◌, map, MatchOption, MatchResult};
+ghost use Rattle.std.specs.Prelude.{◌≡◌, map, MatchResult};
 ghost use Rattle.words.specs.Token.{token};
 ghost use Rattle.lines.specs.Answer.{answered, UnlessMemory};
-ghost use Rattle.lines.specs.Phrases.{past, with_prefix, after_first, operand_of, expression_of, words_left, term_read};
-ghost use Rattle.lines.specs.Syntax.{phrase, dyadic};
+ghost use Rattle.lines.specs.Phrases.{FirstIs, past, with_prefix, after_first, operand_of, expression_of, words_left, term_read};
+ghost use Rattle.lines.specs.Roles.{is_fixed};
+ghost use Rattle.lines.specs.Syntax.{phrase};
 ghost use Rattle.lines.specs.declared.refusal.Flaw.TheVariants.{Memory};
 
 use crate::refusal::Flaw;
-use crate::syntax::Term;
-use crate::vocabulary::{Leaf, Point, Prefix, is_point, leaf_of, operator_of, prefix_of};
-use expressions::Dyadic;
+use crate::syntax::Mention;
+use crate::vocabulary::{Fixed, Leaf, Prefix, leaf_of, operator_of, prefix_of};
+use expressions::Expr;
 use std::alloc::Global;
-use words::Word;
+use words::{Sign, Word};
 
-// The first word, and those after it.
-pub fn next<'w, 'a>(words: &'w [Word<'a>]) -> Option<(Word<'a>, &'w [Word<'a>])>
-    ensures { MatchOption result (map token words.now ≡ []) (λ p. map token words.now ≡ token p.0 ∷ map token p.1.now) }
+// What the first word is by `role`, and the words after it.
+pub fn first<'w, 'a, T, F: FnOnce(Word<'a>) -> Option<T>>(
+    words: &'w [Word<'a>],
+    role: F,
+) -> Result<(T, &'w [Word<'a>]), Flaw>
+    requires { F.IsAlwaysCallable role }
+    ensures { FirstIs (F.post role) words.now result }
 {
-    match words {
-        [] => None,
-        [first, rest @ ..] => Some((*first, rest)),
-    }
+    let (word, rest) = words.split_first().ok_or(Flaw::NoForm)?;
+    let part = role(*word).ok_or(Flaw::NoForm)?;
+    Ok((part, rest))
 }
 
-// The words after one that has to stand there.
-pub fn expect<'w, 'a>(point: Point, words: &'w [Word<'a>]) -> Result<&'w [Word<'a>], Flaw>
-    ensures { answered words_left result ≡ past point (map token words.now) }
+// The words after one that has to stand there. By `first` it would need a role that gives nothing, which is no plainer.
+pub fn expect<'w, 'a>(fixed: Fixed, words: &'w [Word<'a>]) -> Result<&'w [Word<'a>], Flaw>
+    ensures { answered words_left result ≡ past (is_fixed fixed) (map token words.now) }
 {
-    let Some((word, rest)) = next(words) else {
-        return Err(Flaw::NoForm);
-    };
-    if is_point(point, word) {
+    let (word, rest) = words.split_first().ok_or(Flaw::NoForm)?;
+    if fixed.is(*word) {
         Ok(rest)
     } else {
         Err(Flaw::NoForm)
     }
 }
 
-fn prefixed<'a>(heap: Global, by: Prefix, operand: Term<'a>) -> Result<Term<'a>, Flaw>
+fn prefixed<'a>(
+    heap: Global,
+    by: Prefix,
+    operand: Expr<Mention<'a>>,
+) -> Result<Expr<Mention<'a>>, Flaw>
     ensures { MatchResult result (λ e. phrase e ≡ with_prefix by (phrase operand.entry)) (λ f. f ≡ Memory) }
 {
-    let inner = Box::new(heap, operand)?;
     match by {
-        Prefix::Minus => Ok(Term::Negative(inner)),
-        Prefix::Not => Ok(Term::Negation(inner)),
+        Prefix::Minus => Ok(Expr::negative(heap, operand)?),
+        Prefix::Not => Ok(Expr::negation(heap, operand)?),
     }
-}
-
-fn joined<'a>(heap: Global, op: Dyadic, left: Term<'a>, right: Term<'a>) -> Result<Term<'a>, Flaw>
-    ensures { MatchResult result (λ e. phrase e ≡ dyadic op (phrase left.entry) (phrase right.entry)) (λ f. f ≡ Memory) }
-{
-    let a = Box::new(heap, left)?;
-    let b = Box::new(heap, right)?;
-    Ok(Term::Dyadic(op, a, b))
 }
 
 // An operand, with brackets at most `depth` deep, and the words that are left.
@@ -61,25 +58,20 @@ fn operand<'w, 'a>(
     heap: Global,
     words: &'w [Word<'a>],
     depth: u8,
-) -> Result<(Term<'a>, &'w [Word<'a>]), Flaw>
+) -> Result<(Expr<Mention<'a>>, &'w [Word<'a>]), Flaw>
     ensures { UnlessMemory (answered term_read result) (operand_of depth (map token words.now)) }
 {
-    let Some((word, rest)) = next(words) else {
-        return Err(Flaw::NoForm);
-    };
-    match leaf_of(word) {
-        Leaf::Name(mention) => Ok((Term::Name(mention), rest)),
-        Leaf::Number(n) => Ok((Term::Number(n), rest)),
-        Leaf::Truth(b) => Ok((Term::Truth(b), rest)),
+    let (leaf, rest) = first(words, leaf_of)?;
+    match leaf {
+        Leaf::Name(mention) => Ok((Expr::Name(mention), rest)),
+        Leaf::Number(n) => Ok((Expr::Number(n), rest)),
+        Leaf::Truth(b) => Ok((Expr::Truth(b), rest)),
         Leaf::Open => {
-            if depth == 0 {
-                return Err(Flaw::NoForm);
-            }
-            let (e, after) = expression(heap, rest, depth - 1)?;
-            let beyond = expect(Point::Close, after)?;
+            let inner = depth.checked_sub(1).ok_or(Flaw::NoForm)?;
+            let (e, after) = expression(heap, rest, inner)?;
+            let beyond = expect(Fixed::Sign(Sign::Close), after)?;
             Ok((e, beyond))
         }
-        Leaf::Other => Err(Flaw::NoForm),
     }
 }
 
@@ -89,13 +81,11 @@ pub fn expression<'w, 'a>(
     heap: Global,
     words: &'w [Word<'a>],
     depth: u8,
-) -> Result<(Term<'a>, &'w [Word<'a>]), Flaw>
+) -> Result<(Expr<Mention<'a>>, &'w [Word<'a>]), Flaw>
     ensures { UnlessMemory (answered term_read result) (expression_of depth (map token words.now)) }
 {
-    let Some((word, rest)) = next(words) else {
-        return Err(Flaw::NoForm);
-    };
-    if let Some(by) = prefix_of(word) {
+    let (word, rest) = words.split_first().ok_or(Flaw::NoForm)?;
+    if let Some(by) = prefix_of(*word) {
         let (e, after) = operand(heap, rest, depth)?;
         let whole = prefixed(heap, by, e)?;
         return Ok((whole, after));
@@ -108,19 +98,18 @@ pub fn expression<'w, 'a>(
 #[cycle(expression_operand_operation)]
 fn operation<'w, 'a>(
     heap: Global,
-    left: Term<'a>,
+    left: Expr<Mention<'a>>,
     words: &'w [Word<'a>],
     depth: u8,
-) -> Result<(Term<'a>, &'w [Word<'a>]), Flaw>
+) -> Result<(Expr<Mention<'a>>, &'w [Word<'a>]), Flaw>
     ensures { UnlessMemory (answered term_read result) (after_first (operand_of depth) (phrase left.entry) (map token words.now)) }
 {
-    let Some((word, rest)) = next(words) else {
-        return Ok((left, words));
-    };
-    let Some(op) = operator_of(word) else {
-        return Ok((left, words));
-    };
-    let (right, end) = operand(heap, rest, depth)?;
-    let whole = joined(heap, op, left, right)?;
-    Ok((whole, end))
+    if let Some((word, rest)) = words.split_first()
+        && let Some(op) = operator_of(*word)
+    {
+        let (right, end) = operand(heap, rest, depth)?;
+        let whole = Expr::dyadic(heap, op, left, right)?;
+        return Ok((whole, end));
+    }
+    Ok((left, words))
 }

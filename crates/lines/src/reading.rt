@@ -1,18 +1,16 @@
 // A line of the text, read under the names that are declared.
 ghost use Rattle.std.specs.Prelude.{◌≡◌, map, OnErr};
-ghost use Rattle.words.specs.Reading.{line_of};
 ghost use Rattle.words.specs.Token.{token};
 ghost use Rattle.lines.specs.Answer.{answered, UnlessMemory};
 ghost use Rattle.lines.specs.Judgement.{formed_with};
 ghost use Rattle.lines.specs.Law.{Lawful};
-ghost use Rattle.lines.specs.Lines.{form_of, given, line_form_of, no_names, row_of, row_reading, stated_of, stated_with, UnlessStarved};
+ghost use Rattle.lines.specs.Lines.{form_of, given, line_form_of, stated_of, stated_with, UnlessStarved};
 ghost use Rattle.lines.specs.Table.{table};
 
 use crate::drafts::draft_of;
 use crate::forms::Form;
 use crate::judgement::judge;
 use crate::names::Names;
-use crate::phrases::next;
 use crate::refusal::{Flaw, LineFault};
 use std::alloc::Global;
 use words::{Line, Row, Word};
@@ -33,45 +31,26 @@ fn form_of<'a>(heap: Global, names: &mut Names<'a>, words: &[Word<'a>]) -> Resul
     judge(heap, names, draft)
 }
 
-// The form of line `number`, of that level, which has the words; a line with no words has none.
+// The level and form of line `number`, which has the words; a line with no words has no form.
 fn statement_of<'a>(
     heap: Global,
     names: &mut Names<'a>,
     number: u16,
-    level: u8,
-    words: &[Word<'a>],
+    row: &Row<'a>,
 ) -> Result<Option<Statement>, LineFault>
-    ensures reads { UnlessStarved (given (stated_with names.new) result) (stated_of (table names.old) number level (map token words.now)) }
+    ensures reads { UnlessStarved (given (stated_with names.new) result) (stated_of (table names.old) number row.now.level (map token row.now.words.items)) }
     ensures kept { OnErr result (table names.new ≡ table names.old) }
 {
-    if let None = next(words) {
+    if row.words.is_empty() {
         return Ok(None);
     }
-    match form_of(heap, names, words) {
-        Ok(form) => Ok(Some(Statement { level, form })),
+    match form_of(heap, names, row.words.as_slice()) {
+        Ok(form) => Ok(Some(Statement {
+            level: row.level,
+            form,
+        })),
         Err(flaw) => Err(flaw.in_line(number)),
     }
-}
-
-// The words of a line.
-fn row_of<'a>(heap: Global, line: Line<'a>) -> Result<Row<'a>, LineFault>
-    ensures { UnlessStarved (given row_reading result) (row_of (line_of line.entry.number line.entry.bytes.now)) }
-{
-    let row = words::read_line(heap, line)?;
-    Ok(row)
-}
-
-// The level and form of a line by its definition.
-fn line_form<'a>(
-    heap: Global,
-    names: &mut Names<'a>,
-    line: Line<'a>,
-) -> Result<Option<Statement>, LineFault>
-    ensures reads { UnlessStarved (given (stated_with names.new) result) (line_form_of (table names.old) line.entry.number line.entry.bytes.now) }
-    ensures kept { OnErr result (table names.new ≡ table names.old) }
-{
-    let row = row_of(heap, line)?;
-    statement_of(heap, names, line.number, row.level, row.words.as_slice())
 }
 
 // The level and form of a line, and the names after it; or what is wrong with it. A refusal leaves the names as they were.
@@ -84,16 +63,6 @@ pub fn read_form<'a>(
     ensures law { Lawful (table names.old) line.entry.number line.entry.bytes.now (given (stated_with names.new) result) }
     ensures kept { OnErr result (table names.new ≡ table names.old) }
 {
-    line_form(heap, names, line)
-}
-
-// No names.
-pub fn no_names<'a>(heap: Global) -> Names<'a>
-    ensures { table result ≡ no_names }
-{
-    Names {
-        variables: Vec::new(heap),
-        channels: Vec::new(heap),
-        links: Vec::new(heap),
-    }
+    let row = words::read_line(heap, line)?;
+    statement_of(heap, names, line.number, &row)
 }

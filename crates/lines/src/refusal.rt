@@ -9,7 +9,7 @@ use std::alloc::{AllocError, AllocFailed};
 use words::WordFault;
 
 // What is wrong with a line, of which the words are right.
-#[derive(Clone, Copy)]
+#[derive(Clone, Copy, Debug, PartialEq, Eq)]
 pub enum Flaw {
     // the words have no form, or brackets are too deep
     NoForm,
@@ -24,7 +24,8 @@ pub enum Flaw {
     Memory,
 }
 
-#[derive(Clone, Copy)]
+// A flaw's cases stand here again, with the line: a case that held a `Flaw` would tell want of memory in two ways.
+#[derive(Clone, Copy, Debug, PartialEq, Eq)]
 pub enum LineFault {
     // the words are wrong
     Words(WordFault),
@@ -41,12 +42,12 @@ pub enum LineFault {
     Memory,
 }
 
-impl LineFault {
-    // The number, layer and place by which the refusal is told.
-    pub fn fault(self) -> Fault
-        ensures { result ≡ fault_of self }
-    {
-        let (number, layer, line, byte) = match self {
+// The number, layer and place by which a refusal is told.
+impl From<LineFault> for Fault {
+    ghost from_gives = { λ e r. r ≡ fault_of e };
+
+    fn from(e: LineFault) -> Fault {
+        let (number, layer, line, byte) = match e {
             LineFault::Words(fault) => return fault.into(),
             LineFault::NoForm { line } => (6, Layer::Lines, line, 0),
             LineFault::Name { line, byte } => (7, Layer::Lines, line, byte),
@@ -65,7 +66,7 @@ impl LineFault {
 }
 
 impl Flaw {
-    // The fault of a line that has the flaw.
+    // The fault of a line that has the flaw: no `From`, since it takes the line.
     pub fn in_line(self, line: u16) -> LineFault
         ensures { result ≡ in_line line self }
     {
@@ -92,6 +93,7 @@ impl From<WordFault> for LineFault {
     }
 }
 
+// Want of memory is one more case of both enums by a rule of the project. Both take either error of an allocation, so that a `?` may stand at any of them.
 impl From<AllocError> for LineFault {
     ghost from_gives = { λ _ r. r ≡ Memory };
 

@@ -1,17 +1,17 @@
 // Names looked up in the tables.
-ghost use Rattle.std.specs.Prelude.{◌≡◌, map, length, MatchResult};
+ghost use Rattle.std.specs.Prelude.{◌≡◌, map, length};
 ghost use Rattle.expressions.specs.Expression.{shape};
-ghost use Rattle.expressions.specs.Expression as expression;
 ghost use Rattle.lines.specs.Answer.{answered, UnlessMemory};
+ghost use Rattle.lines.specs.Judgement.{unclashed};
+ghost use Rattle.lines.specs.Lines.{no_names};
 ghost use Rattle.lines.specs.Syntax.{mention_text, naming, phrase};
-ghost use Rattle.lines.specs.Table.{channel_at, clash, clashing, declared, kind_in, resolved, table, variable_at, variable_number};
-ghost use Rattle.lines.specs.declared.refusal.Flaw.TheVariants.{Memory};
+ghost use Rattle.lines.specs.Table.{channel_at, channel_number, clash, clashing, declared, kind_in, resolved, table, variable_at, variable_number};
 
-use crate::names::{Link, Names};
+use crate::names::{NameList, Names};
 use crate::refusal::Flaw;
 use crate::search::find;
-use crate::syntax::{Mention, Term};
-use expressions::{Dyadic, Expr, Variable};
+use crate::syntax::Mention;
+use expressions::{Expr, Variable};
 use rules::{Channel, Kind};
 use std::alloc::Global;
 
@@ -19,51 +19,54 @@ use std::alloc::Global;
 pub fn variable(names: &Names<'_>, mention: Mention<'_>) -> Result<Variable, Flaw>
     ensures { answered variable_number result ≡ variable_at (table names.now) (naming mention.entry) }
 {
-    let Some(i) = find(names.variables.as_slice(), mention.text) else {
-        return Err(Flaw::Name { byte: mention.byte });
-    };
-    let Some(variable) = Variable::new(i as u8) else {
-        unreachable()
-    };
-    Ok(variable)
+    names
+        .variables
+        .number_of(mention.text)
+        .and_then(Variable::new)
+        .ok_or(Flaw::Name { byte: mention.byte })
 }
 
-// What a channel is: a link where it is placed, else internal.
-fn kind_of(links: &[Link], channel: u8) -> Kind
-    ensures { result ≡ kind_in links.now channel }
+// The channel of a name, and what it is.
+pub fn channel(names: &Names<'_>, mention: Mention<'_>) -> Result<(Channel, Kind), Flaw>
+    ensures { answered channel_number result ≡ channel_at (table names.now) (naming mention.entry) }
 {
-    for link in links {
-        if link.channel == channel {
-            return link.kind;
+    let Some(channel) = names
+        .channels
+        .number_of(mention.text)
+        .and_then(Channel::new)
+    else {
+        return Err(Flaw::Name { byte: mention.byte });
+    };
+    Ok((channel, names.kind(channel)))
+}
+
+impl<'a> Names<'a> {
+    // No names.
+    pub fn new(heap: Global) -> Names<'a>
+        ensures { table result ≡ no_names }
+    {
+        Names {
+            variables: NameList::new(heap),
+            channels: NameList::new(heap),
+            links: Vec::new(heap),
         }
     }
-    Kind::Internal
-}
 
-// The number of the channel of a name, and what it is.
-pub fn channel(names: &Names<'_>, mention: Mention<'_>) -> Result<(u8, Kind), Flaw>
-    ensures { result ≡ channel_at (table names.now) (naming mention.entry) }
-{
-    let Some(i) = find(names.channels.as_slice(), mention.text) else {
-        return Err(Flaw::Name { byte: mention.byte });
-    };
-    let number = i as u8;
-    Ok((number, kind_of(names.links.as_slice(), number)))
-}
-
-impl Names<'_> {
     // What a channel is: a link where it is placed, else internal.
     pub fn kind(&self, channel: Channel) -> Kind
         ensures { result ≡ kind_in (table self.now).links channel.number }
     {
-        kind_of(self.links.as_slice(), channel.number())
+        self.links
+            .iter()
+            .find(|link| link.channel == channel)
+            .map_or(Kind::Internal, |link| link.kind)
     }
 
     // How many variables are declared.
     pub fn variable_count(&self) -> u8
         ensures { result ≡ length (table self.now).variables }
     {
-        self.variables.len() as u8
+        self.variables.count()
     }
 }
 
@@ -71,8 +74,7 @@ impl Names<'_> {
 fn declares(names: &Names<'_>, name: &[u8]) -> bool
     ensures { result ≡ declared (table names.now) name.now }
 {
-    find(names.variables.as_slice(), name).is_some()
-        || find(names.channels.as_slice(), name).is_some()
+    names.variables.number_of(name).is_some() || names.channels.number_of(name).is_some()
 }
 
 // Whether a name is declared, or stands among those before it.
@@ -82,62 +84,45 @@ fn clashes(names: &Names<'_>, earlier: &[Mention<'_>], name: &[u8]) -> bool
     declares(names, name) || find(earlier, name).is_some()
 }
 
-// The place of the first name that is declared twice.
-pub fn clash_of(names: &Names<'_>, list: &[Mention<'_>]) -> Option<u16>
-    ensures { result ≡ clash (table names.now) (map naming list.now) }
+// Each name is new: neither declared nor among those before it.
+pub fn unclashed(names: &Names<'_>, list: &[Mention<'_>]) -> Result<(), Flaw>
+    ensures { result ≡ unclashed (clash (table names.now) (map naming list.now)) }
 {
     for (i, mention) in list.iter().enumerate() {
-        let (earlier, _) = list.split_at(i);
-        if clashes(names, earlier, mention.text) {
-            return Some(mention.byte);
+        if clashes(names, &list[..i], mention.text) {
+            return Err(Flaw::Name { byte: mention.byte });
         }
     }
-    None
-}
-
-fn negative(heap: Global, operand: Expr) -> Result<Expr, Flaw>
-    ensures { MatchResult result (λ e. shape e ≡ expression.negative (shape operand)) (λ f. f ≡ Memory) }
-{
-    Ok(Expr::Negative(Box::new(heap, operand)?))
-}
-
-fn negation(heap: Global, operand: Expr) -> Result<Expr, Flaw>
-    ensures { MatchResult result (λ e. shape e ≡ expression.negation (shape operand)) (λ f. f ≡ Memory) }
-{
-    Ok(Expr::Negation(Box::new(heap, operand)?))
-}
-
-fn dyadic(heap: Global, op: Dyadic, left: Expr, right: Expr) -> Result<Expr, Flaw>
-    ensures { MatchResult result (λ e. shape e ≡ expression.dyadic op (shape left) (shape right)) (λ f. f ≡ Memory) }
-{
-    let a = Box::new(heap, left)?;
-    let b = Box::new(heap, right)?;
-    Ok(Expr::Dyadic(op, a, b))
+    Ok(())
 }
 
 // An expression with its names looked up.
-pub fn resolve(heap: Global, names: &Names<'_>, term: &Term<'_>) -> Result<Expr, Flaw>
+pub fn resolve(
+    heap: Global,
+    names: &Names<'_>,
+    term: &Expr<Mention<'_>>,
+) -> Result<Expr<Variable>, Flaw>
     ensures { UnlessMemory (answered shape result) (resolved (table names.now) (phrase term.now)) }
 {
     match term {
-        Term::Name(mention) => {
+        Expr::Name(mention) => {
             let x = variable(names, *mention)?;
-            Ok(Expr::Variable(x))
+            Ok(Expr::Name(x))
         }
-        Term::Number(n) => Ok(Expr::Number(*n)),
-        Term::Truth(b) => Ok(Expr::Truth(*b)),
-        Term::Negative(e) => {
+        Expr::Number(n) => Ok(Expr::Number(*n)),
+        Expr::Truth(b) => Ok(Expr::Truth(*b)),
+        Expr::Negative(e) => {
             let operand = resolve(heap, names, e)?;
-            negative(heap, operand)
+            Ok(Expr::negative(heap, operand)?)
         }
-        Term::Negation(e) => {
+        Expr::Negation(e) => {
             let operand = resolve(heap, names, e)?;
-            negation(heap, operand)
+            Ok(Expr::negation(heap, operand)?)
         }
-        Term::Dyadic(op, a, b) => {
+        Expr::Dyadic(op, a, b) => {
             let left = resolve(heap, names, a)?;
             let right = resolve(heap, names, b)?;
-            dyadic(heap, *op, left, right)
+            Ok(Expr::dyadic(heap, *op, left, right)?)
         }
     }
 }

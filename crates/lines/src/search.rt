@@ -15,10 +15,5 @@ pub fn find<T: Named>(table: &[T], name: &[u8]) -> Option<usize>
     ensures first { result ≡ found (map T.Named.named table.now) name.now }
     ensures below { IfSome result (λ i. i < length table.now) }
 {
-    for (i, row) in table.iter().enumerate() {
-        if row.name() == name {
-            return Some(i);
-        }
-    }
-    None
+    table.iter().position(|row| row.name() == name)
 }

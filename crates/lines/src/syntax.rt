@@ -1,40 +1,19 @@
 // A line as it is written: its names are not looked up yet.
-use expressions::Dyadic;
+ghost use Rattle.std.specs.Prelude.{Some};
+ghost use Rattle.lines.specs.Written.{lone_text};
+
+use expressions::Expr;
+use std::fmt;
 
 // A name where it stands, and the place of its first byte in the line, counted from 1.
-#[derive(Clone, Copy)]
+#[derive(Clone, Copy, Debug, PartialEq, Eq)]
 pub struct Mention<'a> {
     pub text: &'a [u8],
     pub byte: u16,
 }
 
-// An expression as it is written.
-pub enum Term<'a> {
-    Name(Mention<'a>),
-    Number(i32),
-    Truth(bool),
-    Negative(Box<Term<'a>>),
-    Negation(Box<Term<'a>>),
-    Dyadic(Dyadic, Box<Term<'a>>, Box<Term<'a>>),
-}
-
-impl Drop for Term<'_> {
-    fn drop(self) {
-        match self {
-            Term::Name(_) | Term::Number(_) | Term::Truth(_) => {}
-            Term::Negative(e) | Term::Negation(e) => {
-                let _e = Box::into_inner(e);
-            }
-            Term::Dyadic(_, a, b) => {
-                let _a = Box::into_inner(a);
-                let _b = Box::into_inner(b);
-            }
-        }
-    }
-}
-
 // The lines that are keywords alone: SKIP, STOP, SEQ, PAR, IF, ALT and PRI ALT.
-#[derive(Clone, Copy)]
+#[derive(Clone, Copy, Debug, PartialEq, Eq)]
 pub enum Lone {
     Skip,
     Stop,
@@ -45,7 +24,24 @@ pub enum Lone {
     PriAlt,
 }
 
-// A line as it is written.
+impl fmt::Display for Lone {
+    ghost output = { λ lone. Some (lone_text lone) };
+
+    fn fmt<W: fmt::Write>(&self, f: &mut fmt::Formatter<W>) -> fmt::Result {
+        match self {
+            Lone::Skip => write!(f, "SKIP"),
+            Lone::Stop => write!(f, "STOP"),
+            Lone::Seq => write!(f, "SEQ"),
+            Lone::Par => write!(f, "PAR"),
+            Lone::If => write!(f, "IF"),
+            Lone::Alt => write!(f, "ALT"),
+            Lone::PriAlt => write!(f, "PRI ALT"),
+        }
+    }
+}
+
+// A line as it is written. Its cases are those of `Form`; a type over both would need a parameter for each of the lists,
+// variables, channels, addresses and expressions in which the two differ.
 #[derive(Drop)]
 pub enum Draft<'a> {
     // INT names:
@@ -56,17 +52,17 @@ pub enum Draft<'a> {
     Place(Mention<'a>, i32),
     Lone(Lone),
     // variable := expression
-    Assign(Mention<'a>, Term<'a>),
+    Assign(Mention<'a>, Expr<Mention<'a>>),
     // channel ? variable
     Input(Mention<'a>, Mention<'a>),
     // channel ! expression
-    Output(Mention<'a>, Term<'a>),
+    Output(Mention<'a>, Expr<Mention<'a>>),
     // WHILE condition
-    While(Term<'a>),
+    While(Expr<Mention<'a>>),
     // a condition alone
-    Choice(Term<'a>),
+    Choice(Expr<Mention<'a>>),
     // condition & channel ? variable
-    Guard(Term<'a>, Mention<'a>, Mention<'a>),
+    Guard(Expr<Mention<'a>>, Mention<'a>, Mention<'a>),
     // condition & SKIP
-    SkipGuard(Term<'a>),
+    SkipGuard(Expr<Mention<'a>>),
 }

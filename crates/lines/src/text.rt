@@ -1,13 +1,13 @@
 // The forms of a whole text.
 ghost use Rattle.std.specs.Prelude.{map};
-ghost use Rattle.words.specs.Division.{lines_of, numbered_line};
+ghost use Rattle.words.specs.Division.{numbered_line};
 ghost use Rattle.lines.specs.Lines.{given, UnlessStarved};
 ghost use Rattle.lines.specs.Table.{table};
-ghost use Rattle.lines.specs.Text.{entries_with, forms_from, limited_to, outline, text_forms};
+ghost use Rattle.lines.specs.Text.{entries_with, forms_from, outline, text_forms};
 
 use crate::forms::Form;
 use crate::names::Names;
-use crate::reading::{no_names, read_form};
+use crate::reading::read_form;
 use crate::refusal::LineFault;
 use std::alloc::Global;
 use words::Line;
@@ -49,20 +49,12 @@ fn read_forms<'a>(
     Ok(entries)
 }
 
-// The lines of a text.
-fn lines_of<'a>(heap: Global, text: &'a [u8]) -> Result<Vec<Line<'a>>, LineFault>
-    ensures { UnlessStarved (given (λ v. map numbered_line v.items) result) (limited_to (lines_of text.now)) }
-{
-    let lines = words::split(heap, text)?;
-    Ok(lines)
-}
-
 // The forms of a text and the names that it declares, or its first fault.
 pub fn read_text<'a>(heap: Global, text: &'a [u8]) -> Result<Outline<'a>, LineFault>
     ensures { UnlessStarved (given outline result) (text_forms text.now) }
 {
-    let lines = lines_of(heap, text)?;
-    let mut names = no_names(heap);
+    let lines = words::split(heap, text)?;
+    let mut names = Names::new(heap);
     let entries = read_forms(heap, &mut names, lines.as_slice())?;
     Ok(Outline { names, entries })
 }

@@ -1,14 +1,14 @@
 // The types of expressions, in which every name is a variable.
 ghost use Rattle.std.specs.Prelude.{◌≡◌};
-ghost use Rattle.lines.specs.Types.{of_type, operation_type, type_of, typed};
+ghost use Rattle.lines.specs.Types.{of_type, operation_type, type_of};
 ghost use Rattle.lines.specs.Syntax.{phrase};
 
 use crate::refusal::Flaw;
-use crate::syntax::Term;
-use expressions::Dyadic;
+use crate::syntax::Mention;
+use expressions::{Dyadic, Expr};
 
 // The types: INT, and that of the truth values.
-#[derive(Clone, Copy)]
+#[derive(Clone, Copy, Debug, PartialEq, Eq)]
 pub enum Sort {
     Int,
     Truth,
@@ -28,36 +28,25 @@ fn operation_type(op: Dyadic, left: Option<Sort>, right: Option<Sort>) -> Option
 }
 
 // The type of an expression, if it has one.
-fn type_of(term: &Term<'_>) -> Option<Sort>
+fn type_of(term: &Expr<Mention<'_>>) -> Option<Sort>
     ensures { result ≡ type_of (phrase term.now) }
 {
     match term {
-        Term::Name(_) | Term::Number(_) => Some(Sort::Int),
-        Term::Truth(_) => Some(Sort::Truth),
-        Term::Negative(e) => match type_of(e) {
-            Some(Sort::Int) => Some(Sort::Int),
-            _ => None,
-        },
-        Term::Negation(e) => match type_of(e) {
-            Some(Sort::Truth) => Some(Sort::Truth),
-            _ => None,
-        },
-        Term::Dyadic(op, a, b) => operation_type(*op, type_of(a), type_of(b)),
-    }
-}
-
-fn is_typed(wanted: Sort, given: Option<Sort>) -> Result<(), Flaw>
-    ensures { result ≡ typed wanted given }
-{
-    match (wanted, given) {
-        (Sort::Int, Some(Sort::Int)) | (Sort::Truth, Some(Sort::Truth)) => Ok(()),
-        _ => Err(Flaw::WrongType),
+        Expr::Name(_) | Expr::Number(_) => Some(Sort::Int),
+        Expr::Truth(_) => Some(Sort::Truth),
+        Expr::Negative(e) => type_of(e).filter(|sort| *sort == Sort::Int),
+        Expr::Negation(e) => type_of(e).filter(|sort| *sort == Sort::Truth),
+        Expr::Dyadic(op, a, b) => operation_type(*op, type_of(a), type_of(b)),
     }
 }
 
 // The expression has to be of that type.
-pub fn demand(wanted: Sort, term: &Term<'_>) -> Result<(), Flaw>
+pub fn demand(wanted: Sort, term: &Expr<Mention<'_>>) -> Result<(), Flaw>
     ensures { result ≡ of_type wanted (phrase term.now) }
 {
-    is_typed(wanted, type_of(term))
+    if type_of(term) == Some(wanted) {
+        Ok(())
+    } else {
+        Err(Flaw::WrongType)
+    }
 }

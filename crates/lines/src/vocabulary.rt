@@ -1,6 +1,7 @@
-// What a single word can be to the grammar.
-ghost use Rattle.std.specs.Prelude.{◌≡◌};
-ghost use Rattle.lines.specs.Roles.{leaf, leaf_of, naming_of, naming_or, operator_of, opening_of, keyword_opening, sign_operator, is_point, prefix_of, separator_of, verb_of};
+// What a single word can be to the grammar. Each role is an enum of its own, so that a match on it has no arm for other words.
+ghost use Rattle.std.specs.Prelude.{◌≡◌, option_map};
+ghost use Rattle.lines.specs.Roles.{leaf, leaf_of, naming_of, number_of, operator_of, opening_of, keyword_opening, sign_operator, is_fixed, prefix_of, separator_of, verb_of};
+ghost use Rattle.lines.specs.Syntax.{naming};
 ghost use Rattle.words.specs.Token.{token};
 
 use crate::syntax::{Lone, Mention};
@@ -9,24 +10,23 @@ use integers::{Comparison, Operator};
 use words::{Keyword, Sign, Word};
 
 // What an operand can begin with.
-#[derive(Clone, Copy)]
+#[derive(Clone, Copy, Debug, PartialEq, Eq)]
 pub enum Leaf<'a> {
     Name(Mention<'a>),
     Number(i32),
     Truth(bool),
     Open,
-    Other,
 }
 
 // What can stand before an operand.
-#[derive(Clone, Copy)]
+#[derive(Clone, Copy, Debug, PartialEq, Eq)]
 pub enum Prefix {
     Minus,
     Not,
 }
 
 // What a line can begin with.
-#[derive(Clone, Copy)]
+#[derive(Clone, Copy, Debug, PartialEq, Eq)]
 pub enum Opening {
     Int,
     Chan,
@@ -34,11 +34,10 @@ pub enum Opening {
     While,
     Pri,
     Lone(Lone),
-    Other,
 }
 
 // What can follow the name that a process begins with.
-#[derive(Clone, Copy)]
+#[derive(Clone, Copy, Debug, PartialEq, Eq)]
 pub enum Verb {
     Becomes,
     Input,
@@ -46,45 +45,51 @@ pub enum Verb {
 }
 
 // What can follow a name in a list.
-#[derive(Clone, Copy)]
+#[derive(Clone, Copy, Debug, PartialEq, Eq)]
 pub enum Separator {
     Comma,
     Colon,
 }
 
-// The single words that a form has at a fixed place.
-#[derive(Clone, Copy)]
-pub enum Point {
-    Of,
-    Int,
-    At,
-    Alt,
-    Skip,
-    Colon,
-    Input,
-    Guard,
-    Close,
+// A word that a form has at a fixed place.
+#[derive(Clone, Copy, Debug, PartialEq, Eq)]
+pub enum Fixed {
+    Keyword(Keyword),
+    Sign(Sign),
 }
 
-pub fn leaf_of<'a>(word: Word<'a>) -> Leaf<'a>
-    ensures { leaf result ≡ leaf_of (token word.entry) }
+impl Fixed {
+    // Whether the word is that one.
+    pub fn is(self, word: Word<'_>) -> bool
+        ensures { result ≡ is_fixed self (token word.entry) }
+    {
+        match (self, word) {
+            (Fixed::Keyword(fixed), Word::Keyword { keyword, .. }) => keyword == fixed,
+            (Fixed::Sign(fixed), Word::Sign { sign, .. }) => sign == fixed,
+            _ => false,
+        }
+    }
+}
+
+pub fn leaf_of<'a>(word: Word<'a>) -> Option<Leaf<'a>>
+    ensures { option_map leaf result ≡ leaf_of (token word.entry) }
 {
     match word {
-        Word::Name { text, byte } => Leaf::Name(Mention { text, byte }),
-        Word::Number { value, .. } => Leaf::Number(value),
+        Word::Name { text, byte } => Some(Leaf::Name(Mention { text, byte })),
+        Word::Number { value, .. } => Some(Leaf::Number(value)),
         Word::Keyword {
             keyword: Keyword::True,
             ..
-        } => Leaf::Truth(true),
+        } => Some(Leaf::Truth(true)),
         Word::Keyword {
             keyword: Keyword::False,
             ..
-        } => Leaf::Truth(false),
+        } => Some(Leaf::Truth(false)),
         Word::Sign {
             sign: Sign::Open,
             ..
-        } => Leaf::Open,
-        _ => Leaf::Other,
+        } => Some(Leaf::Open),
+        _ => None,
     }
 }
 
@@ -153,39 +158,48 @@ pub fn operator_of(word: Word<'_>) -> Option<Dyadic>
     }
 }
 
-fn keyword_opening(keyword: Keyword) -> Opening
+fn keyword_opening(keyword: Keyword) -> Option<Opening>
     ensures { result ≡ keyword_opening keyword }
 {
     match keyword {
-        Keyword::Int => Opening::Int,
-        Keyword::Chan => Opening::Chan,
-        Keyword::Place => Opening::Place,
-        Keyword::While => Opening::While,
-        Keyword::Pri => Opening::Pri,
-        Keyword::Skip => Opening::Lone(Lone::Skip),
-        Keyword::Stop => Opening::Lone(Lone::Stop),
-        Keyword::Seq => Opening::Lone(Lone::Seq),
-        Keyword::Par => Opening::Lone(Lone::Par),
-        Keyword::If => Opening::Lone(Lone::If),
-        Keyword::Alt => Opening::Lone(Lone::Alt),
-        _ => Opening::Other,
+        Keyword::Int => Some(Opening::Int),
+        Keyword::Chan => Some(Opening::Chan),
+        Keyword::Place => Some(Opening::Place),
+        Keyword::While => Some(Opening::While),
+        Keyword::Pri => Some(Opening::Pri),
+        Keyword::Skip => Some(Opening::Lone(Lone::Skip)),
+        Keyword::Stop => Some(Opening::Lone(Lone::Stop)),
+        Keyword::Seq => Some(Opening::Lone(Lone::Seq)),
+        Keyword::Par => Some(Opening::Lone(Lone::Par)),
+        Keyword::If => Some(Opening::Lone(Lone::If)),
+        Keyword::Alt => Some(Opening::Lone(Lone::Alt)),
+        _ => None,
     }
 }
 
-pub fn opening_of(word: Word<'_>) -> Opening
+pub fn opening_of(word: Word<'_>) -> Option<Opening>
     ensures { result ≡ opening_of (token word.entry) }
 {
     match word {
         Word::Keyword { keyword, .. } => keyword_opening(keyword),
-        _ => Opening::Other,
+        _ => None,
     }
 }
 
 pub fn mention_of<'a>(word: Word<'a>) -> Option<Mention<'a>>
-    ensures { naming_or result ≡ naming_of (token word.entry) }
+    ensures { option_map naming result ≡ naming_of (token word.entry) }
 {
     match word {
         Word::Name { text, byte } => Some(Mention { text, byte }),
+        _ => None,
+    }
+}
+
+pub fn number_of(word: Word<'_>) -> Option<i32>
+    ensures { result ≡ number_of (token word.entry) }
+{
+    match word {
+        Word::Number { value, .. } => Some(value),
         _ => None,
     }
 }
@@ -223,76 +237,5 @@ pub fn separator_of(word: Word<'_>) -> Option<Separator>
             ..
         } => Some(Separator::Colon),
         _ => None,
-    }
-}
-
-// Whether the word is the one of that place.
-pub fn is_point(point: Point, word: Word<'_>) -> bool
-    ensures { result ≡ is_point point (token word.entry) }
-{
-    match point {
-        Point::Of => matches!(
-            word,
-            Word::Keyword {
-                keyword: Keyword::Of,
-                ..
-            }
-        ),
-        Point::Int => matches!(
-            word,
-            Word::Keyword {
-                keyword: Keyword::Int,
-                ..
-            }
-        ),
-        Point::At => matches!(
-            word,
-            Word::Keyword {
-                keyword: Keyword::At,
-                ..
-            }
-        ),
-        Point::Alt => matches!(
-            word,
-            Word::Keyword {
-                keyword: Keyword::Alt,
-                ..
-            }
-        ),
-        Point::Skip => matches!(
-            word,
-            Word::Keyword {
-                keyword: Keyword::Skip,
-                ..
-            }
-        ),
-        Point::Colon => matches!(
-            word,
-            Word::Sign {
-                sign: Sign::Colon,
-                ..
-            }
-        ),
-        Point::Input => matches!(
-            word,
-            Word::Sign {
-                sign: Sign::Input,
-                ..
-            }
-        ),
-        Point::Guard => matches!(
-            word,
-            Word::Sign {
-                sign: Sign::Guard,
-                ..
-            }
-        ),
-        Point::Close => matches!(
-            word,
-            Word::Sign {
-                sign: Sign::Close,
-                ..
-            }
-        ),
     }
 }

@@ -7,10 +7,6 @@ use Rattle.listing.specs.Listing.{listing_of}
 use Rattle.listing.specs.Printed.{with_forms}
 use Rattle.std.proofs.lemmas.List.{append_assoc, append-nil, at_drop_more, at_drop_all}
 
-pub three : {A : Type 0} (o a b c : List A) {x y p q r : List A} → x ≡ a → y ≡ b → p ≡ o ++ x → q ≡ p ++ y → r ≡ q ++ c → r ≡ o ++ (a ++ (b ++ c))
-three o a b c {x} {y} is_a is_b e f g =
-    g ∙ ap (λ l. l ++ c) (f ∙ ap (λ l. l ++ y) e) ∙ append_assoc (o ++ x) y c ∙ append_assoc o x (y ++ c) ∙ ap (λ l. o ++ (l ++ (y ++ c))) is_a ∙ ap (λ l. o ++ (a ++ (l ++ c))) is_b
-
 -- the pieces that a list gives from i on, one piece further and at the end
 module _ {X : Type 0} (f : X → List ℕ) (F : List X → List ℕ) (none : F [] ≡ []) (some : (x : X) (xs : List X) → F (x ∷ xs) ≡ f x ++ F xs) (xs : List X) (i : ℕ) (o : List ℕ)
     {whole : List ℕ} (inv : whole ≡ o ++ F (drop i xs)) where

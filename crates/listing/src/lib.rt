@@ -15,9 +15,9 @@ use faults::Fault;
 use forms::push_forms;
 use lines::{Entry, LineFault, read_text};
 use std::alloc::{AllocError, Global};
-use words::{Line, Word, WordFault, read_line, split};
+use words::{Line, Row, Word, WordFault, read_line, split};
 
-// The word for a kind of word.
+// The name of the kind that a word is of. A `Display` of `Word` would be the word itself.
 fn kind_of(word: Word<'_>) -> &'static str
     ensures { result.now ≡ kind_name (token word.entry) }
 {
@@ -29,20 +29,7 @@ fn kind_of(word: Word<'_>) -> &'static str
     }
 }
 
-// The front of a word's row: line, level, byte and kind.
-fn row_front(
-    heap: Global,
-    line: u16,
-    level: u8,
-    byte: u16,
-    kind: &str,
-) -> Result<String, AllocError>
-    ensures { IfOk result (λ s. string_bytes s ≡ front_of line level byte kind.now) }
-{
-    format!(in heap; "{line} {level} {byte} {kind} ")
-}
-
-// Appends the row of one word.
+// Appends the row of one word: its line, level, place and kind, and the word itself.
 fn push_row(
     heap: Global,
     out: &mut Vec<u8>,
@@ -52,7 +39,9 @@ fn push_row(
 ) -> Result<(), AllocError>
     ensures { OnOk result (out.new.items ≡ out.old.items ++ row_of line level (token word.entry)) }
 {
-    let front = row_front(heap, line, level, word.byte(), kind_of(word))?;
+    let byte = word.byte();
+    let kind = kind_of(word);
+    let front = format!(in heap; "{line} {level} {byte} {kind} ")?;
     out.extend_from_slice(front.as_bytes())?;
     out.extend_from_slice(word.text())?;
     out.push(b'\n')?;
@@ -60,17 +49,11 @@ fn push_row(
 }
 
 // Appends the rows of one line's words.
-fn push_rows(
-    heap: Global,
-    out: &mut Vec<u8>,
-    line: u16,
-    level: u8,
-    words: &[Word<'_>],
-) -> Result<(), AllocError>
-    ensures { OnOk result (out.new.items ≡ out.old.items ++ rows_of line level (map token words.now)) }
+fn push_rows(heap: Global, out: &mut Vec<u8>, line: u16, row: &Row<'_>) -> Result<(), AllocError>
+    ensures { OnOk result (out.new.items ≡ out.old.items ++ rows_of line row.now.level (map token row.now.words.items)) }
 {
-    for word in words {
-        push_row(heap, out, line, level, *word)?;
+    for word in row.words.as_slice() {
+        push_row(heap, out, line, row.level, *word)?;
     }
     Ok(())
 }
@@ -83,17 +66,10 @@ fn push_lines(heap: Global, out: &mut Vec<u8>, lines: &[Line<'_>]) -> Result<usi
     let mut count = 0;
     for line in lines {
         let row = read_line(heap, *line)?;
-        push_rows(heap, out, line.number, row.level, row.words.as_slice())?;
+        push_rows(heap, out, line.number, &row)?;
         count += row.words.len();
     }
     Ok(count)
-}
-
-// The closing count.
-fn closing_line(heap: Global, lines: usize, words: usize) -> Result<String, AllocError>
-    ensures { IfOk result (λ s. string_bytes s ≡ closing lines words) }
-{
-    format!(in heap; "{lines} lines, {words} words\n")
 }
 
 // The listing of a text's words, or the first fault of the text.
@@ -104,7 +80,8 @@ pub fn listing(heap: Global, text: &[u8]) -> Result<Vec<u8>, WordFault>
     let mut out = Vec::new(heap);
     out.extend_from_slice(b"line level byte kind word\n")?;
     let words = push_lines(heap, &mut out, lines.as_slice())?;
-    let end = closing_line(heap, lines.len(), words)?;
+    let count = lines.len();
+    let end = format!(in heap; "{count} lines, {words} words\n")?;
     out.extend_from_slice(end.as_bytes())?;
     Ok(out)
 }
@@ -139,6 +116,6 @@ pub fn printout(heap: Global, text: &[u8]) -> Result<Vec<u8>, AllocError>
     match read_text(heap, text) {
         Ok(outline) => with_forms(heap, text, outline.entries.as_slice()),
         Err(LineFault::Memory) => Err(AllocError),
-        Err(refusal) => refusal_line(heap, refusal.fault()),
+        Err(refusal) => refusal_line(heap, refusal.into()),
     }
 }

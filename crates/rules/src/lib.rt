@@ -9,20 +9,18 @@ ghost use Rattle.rules.specs.Promise.{KeepsPromise, Pinned};
 ghost use Rattle.rules.specs.Wrong.{WrongShutOut};
 
 use faults::{Fault, Layer};
-
-mod numbers;
-
 pub use numbers::{Channel, Process};
 
-// A place of the flowchart: a line of the text, or the end of the process that goes there.
-#[derive(Clone, Copy, Debug, PartialEq)]
+// A place of the flowchart: a line of the text, or the end of the process that goes there. The end is a place to stand
+// at, so this is plainer than an `Option` of a line, whose `None` would read as nowhere.
+#[derive(Clone, Copy, Debug, PartialEq, Eq)]
 pub enum Place {
     Line(u16),
     End,
 }
 
 // Where a process stands: nowhere, holding at the line of its PAR while the branches run, or at a place.
-#[derive(Clone, Copy, Debug, PartialEq)]
+#[derive(Clone, Copy, Debug, PartialEq, Eq)]
 pub enum Standing {
     Absent,
     Holding(u16),
@@ -30,15 +28,16 @@ pub enum Standing {
 }
 
 // What a channel is: internal, or a link placed at an address, to the outside or from it.
-#[derive(Clone, Copy, Debug, PartialEq)]
+#[derive(Clone, Copy, Debug, PartialEq, Eq)]
 pub enum Kind {
     Internal,
     Outgoing(u8),
     Incoming(u8),
 }
 
-// What step, offer and take answer when they are not refused.
-#[derive(Clone, Copy, Debug, PartialEq)]
+// What step, offer and take answer when they are not refused. A process or channel is its bare number, since the
+// definitions of the turns answer for every number; a `Process` here would need its bound proved at each of them.
+#[derive(Clone, Copy, Debug, PartialEq, Eq)]
 pub enum Answer {
     Halted {
         process: u8,
@@ -71,14 +70,14 @@ pub enum Answer {
     },
 }
 
-// Why step, offer or take is refused.
-#[derive(Clone, Copy, Debug, PartialEq)]
+// Why step, offer or take is refused, each reason with the number by which it is told.
+#[derive(Clone, Copy, Debug, PartialEq, Eq)]
 pub enum Refusal {
-    NoProgram,
-    NoLink,
-    LinkHolds,
-    NoOutput,
-    NoRule,
+    NoProgram = 15,
+    NoLink = 16,
+    LinkHolds = 17,
+    NoOutput = 18,
+    NoRule = 20,
 }
 
 impl Answer {
@@ -115,21 +114,17 @@ impl Refusal {
     pub fn number(self) -> u8
         ensures { result ≡ number_of self }
     {
-        match self {
-            Refusal::NoProgram => 15,
-            Refusal::NoLink => 16,
-            Refusal::LinkHolds => 17,
-            Refusal::NoOutput => 18,
-            Refusal::NoRule => 20,
-        }
+        self as u8
     }
+}
 
-    // The fault that it is: the host's, with neither line nor byte.
-    pub fn fault(self) -> Fault
-        ensures { result ≡ fault_of self }
-    {
+// The fault that a refusal is: the host's, with neither line nor byte.
+impl From<Refusal> for Fault {
+    ghost from_gives = { λ refusal fault. fault ≡ fault_of refusal };
+
+    fn from(refusal: Refusal) -> Fault {
         Fault {
-            number: self.number(),
+            number: refusal.number(),
             layer: Layer::Host,
             line: 0,
             byte: 0,

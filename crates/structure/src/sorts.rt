@@ -48,7 +48,7 @@ fn lone_sort(lone: Lone) -> Sort
     }
 }
 
-// The sort of a line.
+// The sort of a line: no `From`, since a form is more than its sort.
 pub fn sort_of(form: &Form) -> Sort
     ensures { result ≡ sort_of (formed form.now) }
 {

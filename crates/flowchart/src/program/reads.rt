@@ -12,10 +12,7 @@ impl Program {
     pub fn node(&self, line: u16) -> Option<&Node>
         ensures { Noded self.now line result }
     {
-        if (line as usize) < self.nodes.len() {
-            return Some(&self.nodes[line as usize]);
-        }
-        None
+        self.lines.get(line as usize).map(|line| &line.node)
     }
 
     // What a channel is.
@@ -25,15 +22,22 @@ impl Program {
         self.kinds[channel.number() as usize]
     }
 
-    // Where a process comes from.
+    // Where a process comes from; past the last it is as process 0.
     pub fn origin(&self, process: Process) -> Origin
         ensures parent { result.parent.number ≡ (program_of self.now).parent process.number }
         ensures home { result.home ≡ (program_of self.now).home process.number }
     {
-        self.origins[process.number() as usize]
+        match self.origins.get(process.number() as usize) {
+            Some(origin) => *origin,
+            None => Origin {
+                parent: Process::program(),
+                home: 0,
+            },
+        }
     }
 
-    // The variable that an input at the line receives into, and the place that an input or output there leads to.
+    // The variable that an input at the line receives into, and the place that an input or output there leads to;
+    // as in the rules, these are variable 0 and the end where there is none.
     pub fn exchange(&self, line: u16) -> (Variable, Place)
         ensures { exchanged result ≡ exchange ((program_of self.now).node line) }
     {

@@ -15,6 +15,6 @@ returns c =
     listed c.args.text.now (map numbered_line (vec_items lines)) _ _ _ _ _ _ c.in_ok-lines.ensures.splits
     (head ∙ ap (λ l. l ++ heading) c.new-out.ensures.items)
     shows
-    (c.len.ensures ∙ lines.ok.0 ∙ sym (length-map (vec_items lines) numbered_line))
-    (c.as_bytes.ensures.value ∙ c.in_ok-end.ensures)
+    (c.len-count.ensures ∙ lines.ok.0 ∙ sym (length-map (vec_items lines) numbered_line))
+    (c.as_bytes.ensures.value ∙ c.in_ok-end.ensures.ok)
     end

@@ -1,4 +1,4 @@
-use Rattle.std.proofs.Common.{map, vec_items, sym, ap, ◌∙◌, arith}
+use Rattle.std.proofs.Common.{vec_items, sym, refl, ◌∙◌, arith}
 use Rattle.std.proofs.lemmas.List.{length-map}
 use Rattle.std.proofs.lemmas.Result.{err_from_is_err_and}
 use Rattle.words.specs.Token.{token}
@@ -15,7 +15,7 @@ loop-line-preserved c =
     let words = c.in_ok-row.row.words in
     let many = c.len-count.ensures ∙ words.ok.0 ∙ sym (length-map (vec_items words) token) in (
       omega (arith, c.loop-line.invariant.0, c.len-count.ensures, c.in_ok-row.ensures.few),
-      line_more c.loop-line.invariant.1 _ _ _ c.loop-line-test.true c.in_ok-row.ensures.reads (ap (map token) c.as_slice.ensures.value) many c.in_ok-push_rows.ensures,
+      line_more c.loop-line.invariant.1 _ _ _ c.loop-line-test.true c.in_ok-row.ensures.reads refl many c.in_ok-push_rows.ensures,
     )
 
 pub returns : goal.returns

@@ -1,13 +1,11 @@
-use Rattle.std.proofs.Common.{sym, ◌∙◌}
-use Rattle.std.proofs.lemmas.Bool.{cond-true, cond-false}
-use Rattle.lines.proofs.Placed.{placed_turn, placed_none}
+use Rattle.std.proofs.Common.{rules, tests}
+use Rattle.std.proofs.lemmas.Iterator.{YieldsList-from_slice}
+use Rattle.std.proofs.lemmas.Iterator.Search.{any_from_yields_List}
+use Rattle.lines.specs.Judgement.{placed_at}
+use Rattle.lines.proofs.Searches.{list_any-map}
 use Rattle.lines.proofs.declaration.any_placed_at.Goals as goal
 
-pub returns-then-is_placed_at : goal.returns-then-is_placed_at
-returns-then-is_placed_at c = sym (placed_turn _ c.loop-link.invariant c.loop-link-test.true ∙ cond-true _ _ _ (sym c.if-is_placed_at.ensures))
-
-pub loop-link-preserved : goal.loop-link-preserved
-loop-link-preserved c = record { rest = placed_turn _ c.loop-link.invariant c.loop-link-test.true ∙ cond-false _ _ _ (sym c.if-is_placed_at.ensures) }
-
 pub returns : goal.returns
-returns c = sym (placed_none c.loop-link.invariant c.loop-link-test.false)
+returns c =
+    rw list_any-map
+    (any_from_yields_List (λ l. placed_at c.args.address l.kind) _ _ c.any.result c.any.ensures.ran (YieldsList-from_slice c.args.links.now cc) (λ x b q k. search (rules, tests)))

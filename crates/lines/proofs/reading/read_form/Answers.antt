@@ -1,5 +1,9 @@
+use Rattle.std.proofs.Common.{rules}
 use Rattle.lines.proofs.Laws.{lawful}
 use Rattle.lines.proofs.reading.read_form.Goals as goal
 
-pub returns : goal.returns
-returns c = record { reads = c.line_form.ensures.reads; law = lawful _ _ _ _ c.line_form.ensures.reads; kept = c.line_form.ensures.kept }
+pub returns-in_err-row-clause-law : goal.returns-in_err-row-clause-law
+returns-in_err-row-clause-law c = lawful _ _ _ _ (search rules)
+
+pub returns-clause-law : goal.returns-clause-law
+returns-clause-law c = lawful _ _ _ _ (search rules)

@@ -1,0 +1,59 @@
+// One list of names, that of the variables or that of the channels.
+ghost use Rattle.std.specs.Prelude.{◌≡◌, ◌<◌, ◌++◌, [], map, length, is_ok, if◌then◌else◌, IfSome};
+ghost use Rattle.lines.specs.Answer.{UnlessMemory};
+ghost use Rattle.lines.specs.Found.{found};
+ghost use Rattle.lines.specs.Judgement.{added, texts};
+ghost use Rattle.lines.specs.Syntax.{naming};
+ghost use Rattle.lines.specs.Table.{listed};
+
+use crate::names::NameList;
+use crate::refusal::Flaw;
+use crate::search::find;
+use crate::syntax::Mention;
+use std::alloc::Global;
+
+// The most variables, and the most channels.
+const LIMIT: usize = 64;
+
+impl<'a> NameList<'a> {
+    // No names.
+    pub fn new(heap: Global) -> NameList<'a>
+        ensures { listed result ≡ [] }
+    {
+        NameList {
+            names: Vec::new(heap),
+        }
+    }
+
+    // How many names there are.
+    pub fn count(&self) -> u8
+        ensures { result ≡ length (listed self.now) }
+    {
+        self.names.len() as u8
+    }
+
+    // The number of a name, if it is there.
+    pub fn number_of(&self, name: &[u8]) -> Option<u8>
+        ensures number { result ≡ found (listed self.now) name.now }
+        ensures below { IfSome result (λ i. i < 64) }
+    {
+        find(self.names.as_slice(), name).map(|i| i as u8)
+    }
+
+    // Adds names behind those that are there, or none: the number of the first, and how many they are.
+    pub fn add(&mut self, list: &[Mention<'a>]) -> Result<(u8, u8), Flaw>
+        ensures numbers { UnlessMemory result (added (listed self.old) (map naming list.now)) }
+        ensures names { listed self.new ≡ (if is_ok result then listed self.old ++ texts (map naming list.now) else listed self.old) }
+    {
+        let first = self.names.len();
+        let count = list.len();
+        if count > LIMIT - first {
+            return Err(Flaw::TooMany);
+        }
+        self.names.reserve(count)?;
+        for mention in list {
+            self.names.push_reserved(mention.text);
+        }
+        Ok((first as u8, count as u8))
+    }
+}
