@@ -42,6 +42,7 @@ pub enum Expr<N> {
     Dyadic(Dyadic, Box<Expr<N>>, Box<Expr<N>>),
 }
 
+// A constructor for each case with an operand; one for two of them would take the case as a parameter.
 impl<N: Drop> Expr<N> {
     // `-` before an operand.
     pub fn negative(heap: Global, operand: Expr<N>) -> Result<Expr<N>, AllocError>

@@ -43,10 +43,12 @@ impl fmt::Display for Fault {
     ghost output = { λ x. Some (refusal_line x) };
 
     fn fmt<W: fmt::Write>(&self, f: &mut fmt::Formatter<W>) -> fmt::Result {
-        let number = self.number;
-        let layer = self.layer;
-        let line = self.line;
-        let byte = self.byte;
+        let Fault {
+            number,
+            layer,
+            line,
+            byte,
+        } = self;
         write!(f, "refused {number} {layer} {line} {byte}")
     }
 }

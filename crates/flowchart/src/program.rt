@@ -1,5 +1,5 @@
 // The flowchart's parts.
-ghost use Rattle.std.specs.Prelude.{◌≡◌, length};
+ghost use Rattle.std.specs.Prelude.{◌≡◌, ◌≤◌, length, vec_len};
 
 use expressions::{Expr, Variable};
 use rules::{Channel, Kind, Place, Process};
@@ -24,7 +24,7 @@ pub enum Guard {
 }
 
 // A branch of a PAR: its process and the place where that starts.
-#[derive(Clone, Copy)]
+#[derive(Clone, Copy, Debug, PartialEq, Eq)]
 pub struct Branch {
     pub process: Process,
     pub entry: Place,
@@ -72,7 +72,7 @@ pub enum Node {
 }
 
 // Where a process of a PAR comes from: the process of the PAR, and the PAR's line.
-#[derive(Clone, Copy)]
+#[derive(Clone, Copy, Debug, PartialEq, Eq)]
 pub struct Origin {
     pub parent: Process,
     pub home: u16,
@@ -90,7 +90,7 @@ pub struct Line {
 #[derive(Drop)]
 pub struct Program {
     pub lines: Vec<Line>,
-    // what each channel is
+    // what each channel is: one for each `Channel`, so that it is found without a test
     pub kinds: [Kind; 64],
     // where each process comes from; process 0 has itself as its parent
     pub origins: Vec<Origin>,
@@ -99,4 +99,5 @@ pub struct Program {
     // how many variables there are
     pub variables: u8,
     ghost wide: { length kinds ≡ 64 },
+    ghost few: { vec_len origins ≤ 64 },
 }

@@ -1,16 +1,13 @@
 -- What a word that is a given keyword or sign is to the grammar.
 use Rattle.std.proofs.Common.{◌≡◌, ℕ, Bool, true, false, cond, List, [], ◌∷◌, Some, None, Option, sym, refl, ap, ◌∙◌, subst}
-use denote.Enum.Bare.{same_true}
 use Rattle.words.specs.Token.{Token, name, keyword, number, sign}
-use Rattle.words.specs.contracts.vocabulary.Keyword as any_key
-use Rattle.words.specs.contracts.vocabulary.Sign as any_sign
 use Rattle.words.specs.declared.vocabulary.Keyword.{Keyword}
 use Rattle.words.specs.declared.vocabulary.Keyword.TheVariants as key
 use Rattle.words.specs.declared.vocabulary.Sign.{Sign}
 use Rattle.words.specs.declared.vocabulary.Sign.TheVariants as mark
 use Rattle.expressions.specs.declared.Dyadic.{Dyadic}
 use Rattle.lines.specs.Grammar.{AreKeys, lone_key}
-use Rattle.lines.specs.Roles.{same_key, same_sign, is_key, is_sign, Start, of_truth, bracket, leaf_of, prefix_of, sign_operator, operator_of, keyword_opening, opening_of, naming_of, verb_of, separator_of}
+use Rattle.lines.specs.Roles.{same_key, same_key_lem, same_sign, same_sign_lem, is_key, is_sign, Start, of_truth, bracket, leaf_of, prefix_of, sign_operator, operator_of, keyword_opening, opening_of, naming_of, verb_of, separator_of}
 use Rattle.lines.specs.Syntax.{Naming}
 use Rattle.lines.specs.declared.vocabulary.Opening.{Opening}
 use Rattle.lines.specs.declared.vocabulary.Opening.TheVariants as opening
@@ -20,16 +17,10 @@ use Rattle.lines.specs.declared.vocabulary.Separator.TheVariants as separator
 use Rattle.lines.specs.declared.vocabulary.Verb.{Verb}
 use Rattle.lines.specs.declared.vocabulary.Verb.TheVariants as verb
 
-same_key_lem : (j k : Keyword) → same_key j k ≡ true → j ≡ k
-same_key_lem j k e = same_true any_key.the_type tt j k e
-
-same_sign_lem : (m n : Sign) → same_sign m n ≡ true → m ≡ n
-same_sign_lem m n e = same_true any_sign.the_type tt m n e
-
 -- what a word that is that keyword, or that sign, is to a reader of words
 pub by_key : {A : Type 0} (f : Token → A) (k : Keyword) (t : Token) (x : A) → ((s : List ℕ) (i : ℕ) → f (keyword k s i) ≡ x) → is_key k t ≡ true → f t ≡ x
 by_key f k (name s i) x h e = absurd (cc)
-by_key f k (keyword j s i) x h e = ap (λ l. f (keyword l s i)) (same_key_lem j k e) ∙ h s i
+by_key f k (keyword j s i) x h e = ap (λ l. f (keyword l s i)) ((same_key_lem j k).0 e) ∙ h s i
 by_key f k (number z s i) x h e = absurd (cc)
 by_key f k (sign m s i) x h e = absurd (cc)
 
@@ -37,7 +28,7 @@ pub by_sign : {A : Type 0} (f : Token → A) (n : Sign) (t : Token) (x : A) → 
 by_sign f n (name s i) x h e = absurd (cc)
 by_sign f n (keyword k s i) x h e = absurd (cc)
 by_sign f n (number z s i) x h e = absurd (cc)
-by_sign f n (sign m s i) x h e = ap (λ l. f (sign l s i)) (same_sign_lem m n e) ∙ h s i
+by_sign f n (sign m s i) x h e = ap (λ l. f (sign l s i)) ((same_sign_lem m n).0 e) ∙ h s i
 
 -- what holds of the value that a chain of tests gives, if it holds of the value of each
 by_test : {A : Type 0} (P : A → Type 0) (b : Bool) (x : A) (o : Option A) → (b ≡ true → P x) → ((y : A) → o ≡ Some y → P y) → (y : A) → cond b (Some x) o ≡ Some y → P y
@@ -59,10 +50,10 @@ leaf_alone (keyword k s i) x e =
     by_test (λ _. Alone (keyword k s i)) _ _ _ (truth key.True (refl, refl)) (by_test (λ _. Alone (keyword k s i)) _ _ _ (truth key.False (refl, refl)) (none_left _)) x e
   where
     truth : (j : Keyword) → Alone (keyword j s i) → same_key k j ≡ true → Alone (keyword k s i)
-    truth j h is = subst (λ l. Alone (keyword l s i)) (sym (same_key_lem k j is)) h
+    truth j h is = subst (λ l. Alone (keyword l s i)) (sym ((same_key_lem k j).0 is)) h
 leaf_alone (number z s i) x e = (refl, refl)
 leaf_alone (sign m s i) x e =
-    by_test (λ _. Alone (sign m s i)) _ _ _ (λ is. subst (λ n. Alone (sign n s i)) (sym (same_sign_lem m mark.Open is)) (refl, refl)) (none_left _) x e
+    by_test (λ _. Alone (sign m s i)) _ _ _ (λ is. subst (λ n. Alone (sign n s i)) (sym ((same_sign_lem m mark.Open).0 is)) (refl, refl)) (none_left _) x e
 
 -- the opening bracket
 pub bracket_opens : (t : Token) → leaf_of t ≡ Some bracket → is_sign mark.Open t ≡ true
@@ -77,7 +68,7 @@ bracket_opens (sign m s i) e = by_test (λ _. same_sign m mark.Open ≡ true) _ 
 -- a prefix begins no line of its own, and is no name
 pub prefix_alone : (t : Token) (p : Prefix) → prefix_of t ≡ Some p → (opening_of t ≡ None) × (naming_of t ≡ None)
 prefix_alone (name s i) p e = absurd (cc)
-prefix_alone (keyword k s i) p e = (by_test (λ _. keyword_opening k ≡ None) _ _ _ (λ is. ap keyword_opening (same_key_lem k key.Not is)) (none_left _) p e, refl)
+prefix_alone (keyword k s i) p e = (by_test (λ _. keyword_opening k ≡ None) _ _ _ (λ is. ap keyword_opening ((same_key_lem k key.Not).0 is)) (none_left _) p e, refl)
 prefix_alone (number z s i) p e = absurd (cc)
 prefix_alone (sign m s i) p e = (refl, refl)
 

@@ -1,11 +1,14 @@
 -- What a single word can be to the grammar.
-use Rattle.std.specs.Prelude.{Bool, true, false, cond, ℤ, Some, None, Option}
+use Rattle.std.specs.Prelude.{◌≡◌, Bool, true, false, cond, ◌↔◌, ℤ, Some, None, Option}
+use denote.Enum.Bare.{same_true, true_same}
 use Rattle.integers.specs.declared.Comparison.TheVariants as compare
 use Rattle.integers.specs.declared.Operator.TheVariants as operator
 use Rattle.expressions.specs.declared.Dyadic.{Dyadic}
 use Rattle.expressions.specs.declared.Dyadic.TheVariants.{Arithmetic, Compare, And, Or}
 use Rattle.words.specs.Token.{Token, name, keyword, number, sign}
+use Rattle.words.specs.contracts.vocabulary.Keyword as any_key
 use Rattle.words.specs.contracts.vocabulary.KeywordPartialEq.TheImpl as keyword_eq
+use Rattle.words.specs.contracts.vocabulary.Sign as any_sign
 use Rattle.words.specs.contracts.vocabulary.SignPartialEq.TheImpl as sign_eq
 use Rattle.words.specs.declared.vocabulary.Keyword.{Keyword}
 use Rattle.words.specs.declared.vocabulary.Keyword.TheVariants as key
@@ -30,9 +33,17 @@ use Rattle.lines.specs.declared.vocabulary.Verb.TheVariants as verb
 abbrev pub same_key : Keyword → Keyword → Bool
 same_key j k = keyword_eq.ghosts.eq j k
 
+-- true exactly where the two are one keyword
+pub same_key_lem : (j k : Keyword) → (same_key j k ≡ true) ↔ (j ≡ k)
+same_key_lem j k = (same_true any_key.the_type tt j k, true_same any_key.the_type j k)
+
 -- whether the two are the same sign, as `==` says
 abbrev pub same_sign : Sign → Sign → Bool
 same_sign m n = sign_eq.ghosts.eq m n
+
+-- true exactly where the two are one sign
+pub same_sign_lem : (m n : Sign) → (same_sign m n ≡ true) ↔ (m ≡ n)
+same_sign_lem m n = (same_true any_sign.the_type tt m n, true_same any_sign.the_type m n)
 
 -- whether a word is that keyword
 abbrev pub is_key : Keyword → Token → Bool

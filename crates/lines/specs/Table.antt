@@ -30,7 +30,7 @@ abbrev pub name_bytes : Bor (List ℕ) → List ℕ
 name_bytes n = n.now
 
 -- what a list of names of the code stands for
-abbrev pub listed : NameList → List (List ℕ)
+abbrev pub listed : {letter : ℕ} → NameList letter → List (List ℕ)
 listed l = map name_bytes (vec_items l.names)
 
 -- what a link of the code stands for

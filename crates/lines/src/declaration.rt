@@ -22,7 +22,7 @@ fn address_of(number: i32) -> Result<u8, Flaw>
     }
 }
 
-// The link at an address: 0 to 3 is outgoing, 4 to 7 incoming.
+// The link at an address: 0 to 3 is outgoing, 4 to 7 incoming. No `From`: a number by itself is no kind of channel.
 fn link_at(address: u8) -> Kind
     ensures { result ≡ link_at address }
 {
@@ -36,10 +36,7 @@ fn link_at(address: u8) -> Kind
 fn is_placed_at(address: u8, kind: Kind) -> bool
     ensures { result ≡ placed_at address kind }
 {
-    match kind {
-        Kind::Internal => false,
-        Kind::Outgoing(placed) | Kind::Incoming(placed) => placed == address,
-    }
+    matches!(kind, Kind::Outgoing(placed) | Kind::Incoming(placed) if placed == address)
 }
 
 // Whether a channel is placed at the address.
@@ -49,7 +46,8 @@ fn any_placed_at(address: u8, links: &[Link]) -> bool
     links.iter().any(|link| is_placed_at(address, link.kind))
 }
 
-// INT names: each is new, and there is room.
+// INT names: each is new, and there is room. What the two declarations share is `unclashed` and `NameList::add`; one
+// function for both would take the list and the form as parameters, and be no shorter.
 pub fn declare_variables<'a>(names: &mut Names<'a>, list: &[Mention<'a>]) -> Result<Form, Flaw>
     ensures form { UnlessMemory (answered (formed_with names.new) result) (variables_by (table names.old) (map naming list.now)) }
     ensures kept { OnErr result (table names.new ≡ table names.old) }

@@ -83,11 +83,11 @@ fn names<'a>(heap: Global, words: &[Word<'a>]) -> Result<Vec<Mention<'a>>, Flaw>
 {
     let mut list = Vec::new(heap);
     let mut left = words;
-    while let [name, sign, ..] = left {
+    while let [name, sign, rest @ ..] = left {
         let mention = mention_of(*name).ok_or(Flaw::NoForm)?;
         let separator = separator_of(*sign).ok_or(Flaw::NoForm)?;
         list.push(mention)?;
-        left = &left[2..];
+        left = rest;
         if separator == Separator::Colon {
             end(left)?;
             return Ok(list);
@@ -110,7 +110,9 @@ fn channels<'a>(heap: Global, words: &[Word<'a>]) -> Result<Draft<'a>, Flaw>
 fn guarded<'a>(condition: Expr<Mention<'a>>, words: &[Word<'a>]) -> Result<Draft<'a>, Flaw>
     ensures { answered sentence result ≡ guarded_of (phrase condition.entry) (map token words.now) }
 {
-    if let Ok(rest) = expect(Fixed::Keyword(Keyword::Skip), words) {
+    if let [word, rest @ ..] = words
+        && Fixed::Keyword(Keyword::Skip).is(*word)
+    {
         end(rest)?;
         return Ok(Draft::SkipGuard(condition));
     }

@@ -10,7 +10,7 @@ use std::fmt;
 
 #[derive(Drop)]
 pub enum Form {
-    // INT names: so many variables, numbered from the first
+    // INT names: so many variables, numbered from the first; with no names the first may be 64, so it is no `Variable`
     Variables {
         first: u8,
         count: u8,

@@ -17,7 +17,7 @@ use expressions::{Expr, Variable};
 use rules::Kind;
 use std::alloc::Global;
 
-// What a line does with a channel.
+// What a line does with a channel; a value and no closure, so that `permit` is one function whose contract names it.
 #[derive(Clone, Copy, Debug, PartialEq, Eq)]
 enum Access {
     Read,

@@ -1,5 +1,5 @@
 // One list of names, that of the variables or that of the channels.
-ghost use Rattle.std.specs.Prelude.{◌≡◌, ◌<◌, ◌++◌, [], map, length, is_ok, if◌then◌else◌, IfSome};
+ghost use Rattle.std.specs.Prelude.{◌≡◌, ◌++◌, [], map, length, option_map, is_ok, if◌then◌else◌};
 ghost use Rattle.lines.specs.Answer.{UnlessMemory};
 ghost use Rattle.lines.specs.Found.{found};
 ghost use Rattle.lines.specs.Judgement.{added, texts};
@@ -10,14 +10,15 @@ use crate::names::NameList;
 use crate::refusal::Flaw;
 use crate::search::find;
 use crate::syntax::Mention;
+use numbers::Number;
 use std::alloc::Global;
 
 // The most variables, and the most channels.
 const LIMIT: usize = 64;
 
-impl<'a> NameList<'a> {
+impl<'a, const LETTER: u8> NameList<'a, LETTER> {
     // No names.
-    pub fn new(heap: Global) -> NameList<'a>
+    pub fn new(heap: Global) -> NameList<'a, LETTER>
         ensures { listed result ≡ [] }
     {
         NameList {
@@ -33,11 +34,11 @@ impl<'a> NameList<'a> {
     }
 
     // The number of a name, if it is there.
-    pub fn number_of(&self, name: &[u8]) -> Option<u8>
-        ensures number { result ≡ found (listed self.now) name.now }
-        ensures below { IfSome result (λ i. i < 64) }
+    pub fn number_of(&self, name: &[u8]) -> Option<Number<LETTER>>
+        ensures { option_map (λ x. x.number) result ≡ found (listed self.now) name.now }
     {
-        find(self.names.as_slice(), name).map(|i| i as u8)
+        let place = find(self.names.as_slice(), name)?;
+        Number::new(place as u8)
     }
 
     // Adds names behind those that are there, or none: the number of the first, and how many they are.

@@ -5,9 +5,9 @@ use crate::search::Named;
 use crate::syntax::Mention;
 use rules::{Channel, Kind};
 
-// The names of the variables, or those of the channels, at most 64: a name's place is its number.
+// The names of the variables (v), or those of the channels (c), at most 64: a name's place is its number.
 #[derive(Drop)]
-pub struct NameList<'a> {
+pub struct NameList<'a, const LETTER: u8> {
     pub(crate) names: Vec<&'a [u8]>,
     ghost few: { vec_len names ≤ 64 },
 }
@@ -19,11 +19,14 @@ pub struct Link {
     pub kind: Kind,
 }
 
-// The names of a text, as far as it has been read.
+// The names of a text, as far as it has been read. No model: the functions of this crate need the three lists, and
+// `table` sums them up for the definitions. Functions that allocate take the allocator beside them, as the language has
+// it for all code.
 #[derive(Drop)]
 pub struct Names<'a> {
-    pub(crate) variables: NameList<'a>,
-    pub(crate) channels: NameList<'a>,
+    pub(crate) variables: NameList<'a, b'v'>,
+    pub(crate) channels: NameList<'a, b'c'>,
+    // in the order of their lines, as the definitions have them: eight at most, so a map by channel would be no plainer
     pub(crate) links: Vec<Link>,
 }
 

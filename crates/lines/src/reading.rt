@@ -44,6 +44,7 @@ fn statement_of<'a>(
     if row.words.is_empty() {
         return Ok(None);
     }
+    // Not by map_err and `?`, which need a proof file where this needs none.
     match form_of(heap, names, row.words.as_slice()) {
         Ok(form) => Ok(Some(Statement {
             level: row.level,

@@ -22,7 +22,6 @@ pub fn variable(names: &Names<'_>, mention: Mention<'_>) -> Result<Variable, Fla
     names
         .variables
         .number_of(mention.text)
-        .and_then(Variable::new)
         .ok_or(Flaw::Name { byte: mention.byte })
 }
 
@@ -30,13 +29,10 @@ pub fn variable(names: &Names<'_>, mention: Mention<'_>) -> Result<Variable, Fla
 pub fn channel(names: &Names<'_>, mention: Mention<'_>) -> Result<(Channel, Kind), Flaw>
     ensures { answered channel_number result ≡ channel_at (table names.now) (naming mention.entry) }
 {
-    let Some(channel) = names
+    let channel = names
         .channels
         .number_of(mention.text)
-        .and_then(Channel::new)
-    else {
-        return Err(Flaw::Name { byte: mention.byte });
-    };
+        .ok_or(Flaw::Name { byte: mention.byte })?;
     Ok((channel, names.kind(channel)))
 }
 

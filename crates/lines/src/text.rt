@@ -12,7 +12,8 @@ use crate::refusal::LineFault;
 use std::alloc::Global;
 use words::Line;
 
-// A line with a form: its number, its level and its form.
+// A line with a form: its number, its level and its form. It is plainer than a `Statement` with a number, since who lists
+// a line reads all three.
 #[derive(Drop)]
 pub struct Entry {
     pub line: u16,

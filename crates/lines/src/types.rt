@@ -21,8 +21,7 @@ fn operation_type(op: Dyadic, left: Option<Sort>, right: Option<Sort>) -> Option
     match (op, left, right) {
         (Dyadic::Arithmetic(_), Some(Sort::Int), Some(Sort::Int)) => Some(Sort::Int),
         (Dyadic::Compare(_), Some(Sort::Int), Some(Sort::Int)) => Some(Sort::Truth),
-        (Dyadic::And, Some(Sort::Truth), Some(Sort::Truth)) => Some(Sort::Truth),
-        (Dyadic::Or, Some(Sort::Truth), Some(Sort::Truth)) => Some(Sort::Truth),
+        (Dyadic::And | Dyadic::Or, Some(Sort::Truth), Some(Sort::Truth)) => Some(Sort::Truth),
         _ => None,
     }
 }

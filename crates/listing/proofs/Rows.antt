@@ -35,9 +35,6 @@ pub record Sofar (old new : List ℕ) (ls : List Line) (i n : ℕ) : Type 0 wher
   pub put : new ≡ old ++ seen
   pub left : lines_rows (map numbered_line ls) ≡ atop seen n (rest ls i)
 
-pub none_yet : (old : List ℕ) (ls : List Line) → Sofar old old ls 0 0
-none_yet old ls = record { seen = []; put = sym (append-nil old); left = sym (atop_none (lines_rows (map numbered_line ls))) }
-
 module _ {old new : List ℕ} {ls : List Line} {i n : ℕ} (sofar : Sofar old new ls i n) where
   pub line_fault : (d : Line) (e : WordFault) → i < length ls → UnlessMemory (Err e) (line_of (get_or ls i d).number (get_or ls i d).bytes.now) → (e ≡ Memory) ⊎ (lines_rows (map numbered_line ls) ≡ Err e)
   line_fault d e within (inl is) = inl (cc)

@@ -1,10 +1,9 @@
 // What occlist prints, as bytes.
 #![tactic(auto)]
 
-ghost use Rattle.std.specs.Prelude.{◌≡◌, ◌≤◌, ◌++◌, map, length, IfOk, string_bytes, codes, OnOk};
-ghost use Rattle.listing.specs.Listing.{kind_name, front_of, row_of, rows_of, lines_rows, Shows, closing, listing_of, bytes_of};
-ghost use Rattle.lines.specs.Text.{entry as entered};
-ghost use Rattle.listing.specs.Printed.{fault_line, printed, with_forms};
+ghost use Rattle.std.specs.Prelude.{◌≡◌, ◌≤◌, ◌++◌, map, length, IfOk, OnOk};
+ghost use Rattle.listing.specs.Listing.{kind_name, row_of, rows_of, lines_rows, Shows, listing_of, bytes_of};
+ghost use Rattle.listing.specs.Printed.{Tells, fault_line, printed};
 ghost use Rattle.words.specs.Division.{numbered_line};
 ghost use Rattle.words.specs.Reading.{UnlessMemory};
 ghost use Rattle.words.specs.Token.{token};
@@ -13,7 +12,7 @@ mod forms;
 
 use faults::Fault;
 use forms::push_forms;
-use lines::{Entry, LineFault, read_text};
+use lines::{LineFault, read_text};
 use std::alloc::{AllocError, Global};
 use words::{Line, Row, Word, WordFault, read_line, split};
 
@@ -29,7 +28,8 @@ fn kind_of(word: Word<'_>) -> &'static str
     }
 }
 
-// Appends the row of one word: its line, level, place and kind, and the word itself.
+// Appends the row of one word: its line, level, place and kind, and the word itself. The allocator is passed beside the
+// bytes, as the language has it for all code that allocates.
 fn push_row(
     heap: Global,
     out: &mut Vec<u8>,
@@ -94,27 +94,23 @@ fn refusal_line(heap: Global, fault: Fault) -> Result<Vec<u8>, AllocError>
     Ok(line.into_bytes())
 }
 
-// The listing of a text's words, and after it that of its forms.
-fn with_forms(heap: Global, text: &[u8], entries: &[Entry]) -> Result<Vec<u8>, AllocError>
-    ensures { IfOk result (λ v. v.items ≡ with_forms (listing_of text.now) (map entered entries.now)) }
+// The listing of a text's words, and after it that of its forms; or the first fault of the text.
+fn listings(heap: Global, text: &[u8]) -> Result<Vec<u8>, LineFault>
+    ensures { Tells text.now result }
 {
-    match listing(heap, text) {
-        Ok(mut out) => {
-            out.extend_from_slice(b"line level form\n")?;
-            push_forms(heap, &mut out, entries)?;
-            Ok(out)
-        }
-        Err(WordFault::Memory) => Err(AllocError),
-        Err(refusal) => refusal_line(heap, refusal.into()),
-    }
+    let outline = read_text(heap, text)?;
+    let mut out = listing(heap, text)?;
+    out.extend_from_slice(b"line level form\n")?;
+    push_forms(heap, &mut out, outline.entries.as_slice())?;
+    Ok(out)
 }
 
-// What occlist prints of a text: the listing of its words and that of its forms, or the line of its first fault.
+// What occlist prints of any text: its listings, or the line of its first fault.
 pub fn printout(heap: Global, text: &[u8]) -> Result<Vec<u8>, AllocError>
     ensures { IfOk result (λ v. v.items ≡ printed text.now) }
 {
-    match read_text(heap, text) {
-        Ok(outline) => with_forms(heap, text, outline.entries.as_slice()),
+    match listings(heap, text) {
+        Ok(out) => Ok(out),
         Err(LineFault::Memory) => Err(AllocError),
         Err(refusal) => refusal_line(heap, refusal.into()),
     }

@@ -5,7 +5,8 @@ ghost use Rattle.std.specs.Prelude.{◌≡◌, ◌++◌, ◌<◌, ◌≤◌, Mat
 
 use std::fmt;
 
-// A number below 64, and the letter of what it numbers: v a variable, c a channel, p a process.
+// A number below 64, and the letter of what it numbers: v a variable, c a channel, p a process. No model, since clauses
+// read the number itself.
 #[derive(Clone, Copy, Debug, PartialEq, Eq)]
 pub struct Number<const LETTER: u8> {
     number: u8,

@@ -4,8 +4,8 @@ ghost use Rattle.queues.specs.Meaning.{Empty, Takes};
 use crate::bits::is_set;
 use crate::queue::ReadyQueue;
 
-// A queue that hands over the lowest number it holds: a word with a bit for each number, so that
-// a take counts trailing zeros and a count ones.
+// A queue that hands over the lowest number it holds: by a rule of the project one word with a bit for each number, so
+// that a take counts trailing zeros and a count ones.
 #[derive(Drop)]
 pub struct LowestFirst {
     word: u64,

@@ -1,7 +1,9 @@
 ghost use Rattle.std.specs.Prelude.{◌≡◌, ℕ, nat_lt};
 ghost use Rattle.queues.specs.Meaning.{Empty, Puts, Takes, different};
 
-// A queue of the numbers 0 to 63. It means how often it holds each of them.
+// A queue of the numbers 0 to 63. It means how often it holds each of them, by `held` and not by an `impl Model`: a pair
+// promises that a member is untouched as a whole, and a model would let it say so of the view alone. A number is any
+// `u8`, for a put takes every number there can be; a type for those below 64 would ask more of callers.
 pub trait ReadyQueue {
     ghost held: { Self → ℕ → ℕ };
 

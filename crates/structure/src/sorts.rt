@@ -5,7 +5,7 @@ ghost use Rattle.structure.specs.Sorts.{lone_sort, manner, sort_of};
 
 use lines::{Form, Lone};
 
-#[derive(Clone, Copy)]
+#[derive(Clone, Copy, Debug, PartialEq, Eq)]
 pub enum Sort {
     Declaration,
     Skip,
@@ -26,7 +26,7 @@ pub enum Sort {
 
 // How the lines below a line go on: one after the other (SEQ), as branches (PAR), as a loop's body (WHILE),
 // as choices (IF), or as what goes on after the line (all others).
-#[derive(Clone, Copy)]
+#[derive(Clone, Copy, Debug, PartialEq, Eq)]
 pub enum Manner {
     Sequence,
     Branches,

@@ -19,7 +19,7 @@ const LINE_BYTES: usize = 128;
 const INDENTATION: usize = 32;
 
 // A line of a text, and its number, counted from 1.
-#[derive(Clone, Copy)]
+#[derive(Clone, Copy, Debug, PartialEq, Eq)]
 pub struct Line<'a> {
     pub number: u16,
     pub bytes: &'a [u8],

@@ -83,7 +83,7 @@ fn sign_at(s: &[u8]) -> Option<(Sign, usize)>
     }
 }
 
-// The value of a run of digits, where INT has it.
+// The value of a run of digits, where INT has it. For `parse` the bytes would have to be tested to be text first.
 fn number_of(digits: &[u8]) -> Option<i32>
     ensures { result ≡ number_of digits.now }
 {

@@ -54,7 +54,7 @@ pub enum Sign {
 
 // A word of a line: the part of the line that it was read from, and the place of its first byte, counted from 1.
 // By a rule of the project each kind of word is a case with its own part and place, which `text` and `byte` read of any.
-#[derive(Clone, Copy)]
+#[derive(Clone, Copy, Debug, PartialEq, Eq)]
 pub enum Word<'a> {
     Name {
         text: &'a [u8],

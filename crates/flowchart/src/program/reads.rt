@@ -27,13 +27,13 @@ impl Program {
         ensures parent { result.parent.number ≡ (program_of self.now).parent process.number }
         ensures home { result.home ≡ (program_of self.now).home process.number }
     {
-        match self.origins.get(process.number() as usize) {
-            Some(origin) => *origin,
-            None => Origin {
+        self.origins
+            .get(process.number() as usize)
+            .copied()
+            .unwrap_or(Origin {
                 parent: Process::program(),
                 home: 0,
-            },
-        }
+            })
     }
 
     // The variable that an input at the line receives into, and the place that an input or output there leads to;
@@ -41,15 +41,10 @@ impl Program {
     pub fn exchange(&self, line: u16) -> (Variable, Place)
         ensures { exchanged result ≡ exchange ((program_of self.now).node line) }
     {
-        let Some(first) = Variable::new(0) else {
-            unreachable()
-        };
-        let Some(node) = self.node(line) else {
-            return (first, Place::End);
-        };
-        match node {
-            Node::Input { variable, to, .. } => (*variable, *to),
-            Node::Output { to, .. } => (first, *to),
+        let first = Variable::new(0).unwrap();
+        match self.node(line) {
+            Some(Node::Input { variable, to, .. }) => (*variable, *to),
+            Some(Node::Output { to, .. }) => (first, *to),
             _ => (first, Place::End),
         }
     }

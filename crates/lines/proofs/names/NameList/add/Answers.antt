@@ -4,4 +4,4 @@ use mathlib.Core.List.{map-map}
 use Rattle.lines.proofs.names.NameList.add.Goals as goal
 
 pub returns-clause-names : goal.returns-clause-names
-returns-clause-names c = grind (arith, common_steps, map-map)
+returns-clause-names g c = grind (arith, common_steps, map-map)
