@@ -68,7 +68,8 @@ static CASES: [(&str, &[u8]); 33] = [
     ),
 ];
 
-// So many declarations of one variable each: `INT a0:`, `INT b0:` and so on, in lines of seven bytes.
+// So many declarations of one variable each: `INT a0:`, `INT b0:` and so on, in lines of seven bytes. Not by `format!`, as
+// the contract counts the bytes.
 fn declarations(heap: Global, count: u8) -> Result<Vec<u8>, AllocError>
     ensures { IfOk result (λ v. vec_len v ≡ 8 * count) }
 {

@@ -12,7 +12,8 @@ use crate::resolution::{channel, unclashed};
 use crate::syntax::Mention;
 use rules::Kind;
 
-// The address that a number is: 0 to 7. It stays a bare number, since that it is below 8 is asked for nowhere.
+// The address that a number is: 0 to 7. It stays a bare number, since that it is below 8 is asked for nowhere;
+// and no `TryFrom`, since a number by itself is no address.
 fn address_of(number: i32) -> Result<u8, Flaw>
     ensures { result ≡ address_at number }
 {

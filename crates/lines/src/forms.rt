@@ -15,12 +15,12 @@ pub enum Form {
         first: u8,
         count: u8,
     },
-    // CHAN OF INT names: so many channels, numbered from the first
+    // CHAN OF INT names: so many channels, numbered in the same way
     Channels {
         first: u8,
         count: u8,
     },
-    // PLACE channel AT address:
+    // PLACE channel AT address, 0 to 7:
     Place {
         channel: Channel,
         address: u8,

@@ -41,7 +41,8 @@ impl<'a, const LETTER: u8> NameList<'a, LETTER> {
         Number::new(place as u8)
     }
 
-    // Adds names behind those that are there, or none: the number of the first, and how many they are.
+    // Adds names behind those that are there, or none: the number of the first, and how many they are. The definitions and
+    // who lists a form read the two apart.
     pub fn add(&mut self, list: &[Mention<'a>]) -> Result<(u8, u8), Flaw>
         ensures numbers { UnlessMemory result (added (listed self.old) (map naming list.now)) }
         ensures names { listed self.new ≡ (if is_ok result then listed self.old ++ texts (map naming list.now) else listed self.old) }

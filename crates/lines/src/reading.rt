@@ -15,7 +15,7 @@ use crate::refusal::{Flaw, LineFault};
 use std::alloc::Global;
 use words::{Line, Row, Word};
 
-// The level and the form of a line.
+// The level and the form of a line. The two stand in `Entry` again, since who lists a line reads all three parts of it.
 #[derive(Drop)]
 pub struct Statement {
     pub level: u8,
@@ -44,7 +44,7 @@ fn statement_of<'a>(
     if row.words.is_empty() {
         return Ok(None);
     }
-    // Not by map_err and `?`, which need a proof file where this needs none.
+    // No plainer by map_err and `?`: the closure would stand in place of one arm, and the proof needs a file for it.
     match form_of(heap, names, row.words.as_slice()) {
         Ok(form) => Ok(Some(Statement {
             level: row.level,

@@ -42,7 +42,8 @@ pub enum LineFault {
     Memory,
 }
 
-// The number, layer and place by which a refusal is told.
+// The number, layer and place by which a refusal is told: bare numbers by a rule of the project, 0 where there is no line
+// or byte.
 impl From<LineFault> for Fault {
     ghost from_gives = { λ e r. r ≡ fault_of e };
 
@@ -93,7 +94,8 @@ impl From<WordFault> for LineFault {
     }
 }
 
-// Want of memory is one more case of both enums by a rule of the project. Both take either error of an allocation, so that a `?` may stand at any of them.
+// Want of memory is one more case of both enums by a rule of the project. Both take either error of an allocation, so that
+// a `?` may stand at any of them; one impl for all would need a macro, which the gate refuses.
 impl From<AllocError> for LineFault {
     ghost from_gives = { λ _ r. r ≡ Memory };
 

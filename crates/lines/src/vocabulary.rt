@@ -25,7 +25,7 @@ pub enum Prefix {
     Not,
 }
 
-// What a line can begin with.
+// What a line can begin with. A role of its own, so that a match on it has no arm for other words.
 #[derive(Clone, Copy, Debug, PartialEq, Eq)]
 pub enum Opening {
     Int,
@@ -36,7 +36,7 @@ pub enum Opening {
     Lone(Lone),
 }
 
-// What can follow the name that a process begins with.
+// What can follow the name that a process begins with. A role of its own, so that a match on it has no arm for other words.
 #[derive(Clone, Copy, Debug, PartialEq, Eq)]
 pub enum Verb {
     Becomes,
@@ -93,6 +93,7 @@ pub fn leaf_of<'a>(word: Word<'a>) -> Option<Leaf<'a>>
     }
 }
 
+// A role of its own, so that a match on it has no arm for other words.
 pub fn prefix_of(word: Word<'_>) -> Option<Prefix>
     ensures { result ≡ prefix_of (token word.entry) }
 {
@@ -224,6 +225,7 @@ pub fn verb_of(word: Word<'_>) -> Option<Verb>
     }
 }
 
+// A role of its own, so that a match on it has no arm for other words.
 pub fn separator_of(word: Word<'_>) -> Option<Separator>
     ensures { result ≡ separator_of (token word.entry) }
 {

@@ -110,7 +110,7 @@ impl Answer {
 }
 
 impl Refusal {
-    // The refusal's number.
+    // The refusal's number, by its own name: a `From` for `u8` would not say which number.
     pub fn number(self) -> u8
         ensures { result ≡ number_of self }
     {

@@ -6,6 +6,7 @@ ghost use Rattle.words.specs.declared.refusal.WordFault.TheVariants.{Memory};
 use faults::{Fault, Layer};
 use std::alloc::{AllocError, AllocFailed};
 
+// The line and the byte stand each by itself, as a fault tells them.
 #[derive(Clone, Copy, Debug, PartialEq, Eq)]
 pub enum WordFault {
     // the text has more bytes than a text may have
@@ -25,7 +26,8 @@ pub enum WordFault {
     Memory,
 }
 
-// The number, layer and place by which a refusal is told.
+// The number, layer and place by which a refusal is told: bare numbers by a rule of the project, 0 where there is no line
+// or byte.
 impl From<WordFault> for Fault {
     ghost from_gives = { λ e r. r ≡ fault_of e };
 
@@ -49,7 +51,8 @@ impl From<WordFault> for Fault {
     }
 }
 
-// Want of memory is one more case of this enum by a rule of the project, and `?` asks for both of its conversions.
+// Want of memory is one more case of this enum by a rule of the project, and `?` asks for both of its conversions; one
+// impl for all would need a macro, which the gate refuses.
 impl From<AllocError> for WordFault {
     ghost from_gives = { λ _ r. r ≡ Memory };
 
