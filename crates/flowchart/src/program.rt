@@ -1,5 +1,5 @@
 // The flowchart's parts.
-ghost use Rattle.std.specs.Prelude.{◌≡◌, ◌≤◌, length, vec_len};
+ghost use Rattle.std.specs.Prelude.{◌≤◌, vec_len};
 
 use expressions::{Expr, Variable};
 use rules::{Channel, Kind, Place, Process};
@@ -98,6 +98,5 @@ pub struct Program {
     pub entry: Place,
     // how many variables there are
     pub variables: u8,
-    ghost wide: { length kinds ≡ 64 },
     ghost few: { vec_len origins ≤ 64 },
 }
