@@ -1,5 +1,5 @@
 -- What the code's flowchart stands for in the rules.
-use Rattle.std.specs.Prelude.{◌≡◌, ℕ, map, get_or, Some, None, vec_items, vec_len, Option, slice_index_or}
+use Rattle.std.specs.Prelude.{◌≡◌, ℕ, map, get_or, Some, None, vec_items, Option, slice_index_or}
 use Rattle.std.proofs.Common.{lit<}
 use Rattle.std.specs.Borrow.{Bor}
 use Rattle.expressions.specs.Expression.{shape}
@@ -51,10 +51,10 @@ program_of pg = record {
   node = λ n. node_of (get_or (vec_items pg.lines) n beyond).node;
   kind = λ c. slice_index_or pg.kinds c Internal;
   entry = pg.entry;
-  processes = vec_len pg.origins;
+  processes = pg.processes;
   owner = λ n. (get_or (vec_items pg.lines) n beyond).owner.number;
-  parent = λ p. (get_or (vec_items pg.origins) p rootless).parent.number;
-  home = λ p. (get_or (vec_items pg.origins) p rootless).home;
+  parent = λ p. (get_or pg.origins p rootless).parent.number;
+  home = λ p. (get_or pg.origins p rootless).home;
 }
 
 -- what stands at line n

@@ -1,5 +1,5 @@
 // The flowchart's parts.
-ghost use Rattle.std.specs.Prelude.{◌≤◌, vec_len};
+ghost use Rattle.std.specs.Prelude.{◌≡◌, length};
 
 use expressions::{Expr, Variable};
 use rules::{Channel, Kind, Place, Process};
@@ -92,11 +92,16 @@ pub struct Program {
     pub lines: Vec<Line>,
     // what each channel is: one for each `Channel`, so that it is found without a test
     pub kinds: [Kind; 64],
-    // where each process comes from; process 0 has itself as its parent
-    pub origins: Vec<Origin>,
+    // where each process but process 0 comes from: one for each `Process`, found in the same way; no list, whose length
+    // would be how many there are, since it would hold fewer programs than this
+    pub origins: [Origin; 64],
     // where process 0 starts
     pub entry: Place,
+    // how many processes there are
+    pub processes: u8,
     // how many variables there are
     pub variables: u8,
-    ghost few: { vec_len origins ≤ 64 },
+    // the lengths of the arrays, so that definitions know them too
+    ghost wide: { length kinds ≡ 64 },
+    ghost long: { length origins ≡ 64 },
 }

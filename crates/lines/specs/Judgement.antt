@@ -2,6 +2,7 @@
 use Rattle.std.specs.Prelude.{ℕ, ◌+◌, Bool, false, cond, List, [], ◌∷◌, ◌++◌, map, length, ℤ, pos, negsuc, Some, None, Ok, Err, Option, ◌==◌, nat_lt}
 use Rattle.std.specs.List.{list_any}
 use Rattle.expressions.specs.Expression.{Expression, shape}
+use Rattle.numbers.specs.Kinds.{Channel}
 use Rattle.rules.specs.declared.Kind.{Kind}
 use Rattle.rules.specs.declared.Kind.TheVariants.{Internal, Outgoing, Incoming}
 use Rattle.lines.specs.Answer.{Answer, onward}
@@ -32,22 +33,26 @@ pub data Formed : Type 0 where
   guard : Expression → ℕ → ℕ → Formed
   skip_guard : Expression → Formed
 
+-- what a form stands for whose channel has the number that number gives
+abbrev pub formed_by : {C : Type 0} → (C → ℕ) → Form C → Formed
+formed_by number (form.Variables first count) = variables first count
+formed_by number (form.Channels first count) = channels first count
+formed_by number (form.Place c a) = place (number c) a
+formed_by number (form.Lone l) = lone l
+formed_by number (form.Assign x e) = assign x.number (shape e)
+formed_by number (form.Input c x) = input (number c) x.number
+formed_by number (form.Output c e) = output (number c) (shape e)
+formed_by number (form.While e) = while (shape e)
+formed_by number (form.Choice e) = choice (shape e)
+formed_by number (form.Guard e c x) = guard (shape e) (number c) x.number
+formed_by number (form.SkipGuard e) = skip_guard (shape e)
+
 -- what a form of the code stands for
-abbrev pub formed : Form → Formed
-formed (form.Variables first count) = variables first count
-formed (form.Channels first count) = channels first count
-formed (form.Place c a) = place c.number a
-formed (form.Lone l) = lone l
-formed (form.Assign x e) = assign x.number (shape e)
-formed (form.Input c x) = input c.number x.number
-formed (form.Output c e) = output c.number (shape e)
-formed (form.While e) = while (shape e)
-formed (form.Choice e) = choice (shape e)
-formed (form.Guard e c x) = guard (shape e) c.number x.number
-formed (form.SkipGuard e) = skip_guard (shape e)
+abbrev pub formed : Form Channel → Formed
+formed = formed_by (λ c. c.number)
 
 -- what a form of the code stands for, and the names after it
-abbrev pub formed_with : Names → Form → Formed × Table
+abbrev pub formed_with : Names → Form Channel → Formed × Table
 formed_with ns f = (formed f, table ns)
 
 -- the bytes of names

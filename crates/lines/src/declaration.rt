@@ -1,7 +1,7 @@
 // Declarations and placements, which change the tables.
 ghost use Rattle.std.specs.Prelude.{◌≡◌, map, OnErr};
 ghost use Rattle.lines.specs.Answer.{answered, UnlessMemory};
-ghost use Rattle.lines.specs.Judgement.{address_at, any_placed_at, channels_by, formed_with, link_at, place_by, placed_at, variables_by};
+ghost use Rattle.lines.specs.Judgement.{address_at, any_placed_at, channels_by, formed_with, link_at, place_by, placed_at, unplaced, vacant, variables_by};
 ghost use Rattle.lines.specs.Syntax.{naming};
 ghost use Rattle.lines.specs.Table.{linked, table};
 
@@ -47,6 +47,27 @@ fn any_placed_at(address: u8, links: &[Link]) -> bool
     links.iter().any(|link| is_placed_at(address, link.kind))
 }
 
+// A channel that is no link yet.
+fn unplaced(kind: Kind) -> Result<(), Flaw>
+    ensures { result ≡ unplaced kind }
+{
+    if kind == Kind::Internal {
+        Ok(())
+    } else {
+        Err(Flaw::Link)
+    }
+}
+
+// An address at which no channel is placed yet.
+fn vacant(address: u8, links: &[Link]) -> Result<(), Flaw>
+    ensures { result ≡ vacant address (map linked links.now) }
+{
+    if any_placed_at(address, links) {
+        return Err(Flaw::Link);
+    }
+    Ok(())
+}
+
 // INT names: each is new, and there is room. What the two declarations share is `unclashed` and `NameList::add`; one
 // function for both would take the list and the form as parameters, and be no shorter.
 pub fn declare_variables<'a>(names: &mut Names<'a>, list: &[Mention<'a>]) -> Result<Form, Flaw>
@@ -75,9 +96,8 @@ pub fn place(names: &mut Names<'_>, mention: Mention<'_>, number: i32) -> Result
 {
     let (channel, kind) = channel(names, mention)?;
     let address = address_of(number)?;
-    if kind != Kind::Internal || any_placed_at(address, names.links.as_slice()) {
-        return Err(Flaw::Link);
-    }
+    unplaced(kind)?;
+    vacant(address, names.links.as_slice())?;
     names.links.push(Link {
         channel,
         kind: link_at(address),

@@ -1,9 +1,11 @@
 // The form of a line as it is written, from its words.
-ghost use Rattle.std.specs.Prelude.{◌≡◌, map, option_map};
+ghost use Rattle.std.specs.Prelude.{◌≡◌, MatchResult, None, Some, map, option_map};
 ghost use Rattle.words.specs.Token.{token};
 ghost use Rattle.lines.specs.Answer.{answered, UnlessMemory};
 ghost use Rattle.lines.specs.Sentences.{acted_of, action_of, action_read, address_of, channels_of, condition_of, ended, guarded_of, input_of, mentions_read, name_last, names_of, namings, opened_by, place_of, process_of, sentence_of, whole_of};
+ghost use Rattle.lines.specs.Roles.{naming_of};
 ghost use Rattle.lines.specs.Syntax.{naming, phrase, sentence};
+ghost use Rattle.lines.specs.declared.refusal.Flaw.TheVariants.{NoForm};
 
 use crate::phrases::{expect, expression, first};
 use crate::refusal::Flaw;
@@ -77,6 +79,13 @@ fn input<'a>(words: &[Word<'a>]) -> Result<(Mention<'a>, Mention<'a>), Flaw>
     Ok((channel, variable))
 }
 
+// The name that a word has to be.
+fn named<'a>(word: Word<'a>) -> Result<Mention<'a>, Flaw>
+    ensures { MatchResult result (λ m. naming_of (token word.entry) ≡ Some (naming m)) (λ f. (naming_of (token word.entry) ≡ None) × (f ≡ NoForm)) }
+{
+    mention_of(word).ok_or(Flaw::NoForm)
+}
+
 // Names parted by commas, with a colon at the end.
 fn names<'a>(heap: Global, words: &[Word<'a>]) -> Result<Vec<Mention<'a>>, Flaw>
     ensures { UnlessMemory (answered namings result) (names_of (map token words.now)) }
@@ -84,7 +93,7 @@ fn names<'a>(heap: Global, words: &[Word<'a>]) -> Result<Vec<Mention<'a>>, Flaw>
     let mut list = Vec::new(heap);
     let mut left = words;
     while let [name, sign, rest @ ..] = left {
-        let mention = mention_of(*name).ok_or(Flaw::NoForm)?;
+        let mention = named(*name)?;
         let separator = separator_of(*sign).ok_or(Flaw::NoForm)?;
         list.push(mention)?;
         left = rest;

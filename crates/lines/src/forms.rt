@@ -8,8 +8,10 @@ use expressions::{Expr, Variable};
 use rules::Channel;
 use std::fmt;
 
+// C is what names a channel: a number below 64 in a line's form. Who asks nothing of the channel takes any, so that a
+// form with another number has its answer too.
 #[derive(Drop)]
-pub enum Form {
+pub enum Form<C = Channel> {
     // INT names: so many variables, numbered from the first; with no names the first may be 64, so it is no `Variable`
     Variables {
         first: u8,
@@ -22,7 +24,7 @@ pub enum Form {
     },
     // PLACE channel AT address, 0 to 7:
     Place {
-        channel: Channel,
+        channel: C,
         address: u8,
     },
     // SKIP, STOP, SEQ, PAR, IF, ALT or PRI ALT
@@ -34,12 +36,12 @@ pub enum Form {
     },
     // channel ? variable
     Input {
-        channel: Channel,
+        channel: C,
         variable: Variable,
     },
     // channel ! value
     Output {
-        channel: Channel,
+        channel: C,
         value: Expr<Variable>,
     },
     // WHILE condition
@@ -53,7 +55,7 @@ pub enum Form {
     // condition & channel ? variable
     Guard {
         condition: Expr<Variable>,
-        channel: Channel,
+        channel: C,
         variable: Variable,
     },
     // condition & SKIP

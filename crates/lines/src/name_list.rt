@@ -1,8 +1,8 @@
 // One list of names, that of the variables or that of the channels.
-ghost use Rattle.std.specs.Prelude.{◌≡◌, ◌++◌, [], map, length, option_map, is_ok, if◌then◌else◌};
+ghost use Rattle.std.specs.Prelude.{◌≡◌, ◌+◌, ◌≤◌, ◌++◌, [], map, length, option_map, is_ok, if◌then◌else◌, vec_len, OnOk};
 ghost use Rattle.lines.specs.Answer.{UnlessMemory};
 ghost use Rattle.lines.specs.Found.{found};
-ghost use Rattle.lines.specs.Judgement.{added, texts};
+ghost use Rattle.lines.specs.Judgement.{added, counted, texts};
 ghost use Rattle.lines.specs.Syntax.{naming};
 ghost use Rattle.lines.specs.Table.{listed};
 
@@ -41,6 +41,18 @@ impl<'a, const LETTER: u8> NameList<'a, LETTER> {
         Number::new(place as u8)
     }
 
+    // There has to be room for so many more.
+    fn room(&self, more: usize) -> Result<(), Flaw>
+        ensures counts { result ≡ counted (length (listed self.now)) more }
+        ensures within { OnOk result (vec_len self.now.names + more ≤ 64) }
+    {
+        if more > LIMIT - self.names.len() {
+            Err(Flaw::TooMany)
+        } else {
+            Ok(())
+        }
+    }
+
     // Adds names behind those that are there, or none: the number of the first, and how many they are. The definitions and
     // who lists a form read the two apart.
     pub fn add(&mut self, list: &[Mention<'a>]) -> Result<(u8, u8), Flaw>
@@ -49,9 +61,7 @@ impl<'a, const LETTER: u8> NameList<'a, LETTER> {
     {
         let first = self.names.len();
         let count = list.len();
-        if count > LIMIT - first {
-            return Err(Flaw::TooMany);
-        }
+        self.room(count)?;
         self.names.reserve(count)?;
         for mention in list {
             self.names.push_reserved(mention.text);

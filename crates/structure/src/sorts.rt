@@ -1,6 +1,6 @@
 // What a line is, its parts left out.
-ghost use Rattle.std.specs.Prelude.{◌≡◌};
-ghost use Rattle.lines.specs.Judgement.{formed};
+ghost use Rattle.std.specs.Prelude.{◌≡◌, ℕ};
+ghost use Rattle.lines.specs.Judgement.{formed_by};
 ghost use Rattle.structure.specs.Sorts.{lone_sort, manner, sort_of};
 
 use lines::{Form, Lone};
@@ -48,9 +48,9 @@ fn lone_sort(lone: Lone) -> Sort
     }
 }
 
-// The sort of a line: no `From`, since a form is more than its sort.
-pub fn sort_of(form: &Form) -> Sort
-    ensures { result ≡ sort_of (formed form.now) }
+// The sort of a line: no `From`, since a form is more than its sort. It is the same whatever its channel's number is.
+pub fn sort_of<C>(form: &Form<C>) -> Sort
+    ensures { (number : C → ℕ) → result ≡ sort_of (formed_by number form.now) }
 {
     match form {
         Form::Variables { .. } | Form::Channels { .. } | Form::Place { .. } => Sort::Declaration,

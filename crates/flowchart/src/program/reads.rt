@@ -22,18 +22,12 @@ impl Program {
         self.kinds[channel.number() as usize]
     }
 
-    // Where a process comes from; past the last it is as process 0.
+    // Where a process comes from.
     pub fn origin(&self, process: Process) -> Origin
         ensures parent { result.parent.number ≡ (program_of self.now).parent process.number }
         ensures home { result.home ≡ (program_of self.now).home process.number }
     {
-        self.origins
-            .get(process.number() as usize)
-            .copied()
-            .unwrap_or(Origin {
-                parent: Process::program(),
-                home: 0,
-            })
+        self.origins[process.number() as usize]
     }
 
     // The variable that an input at the line receives into, and the place that an input or output there leads to;
