@@ -102,6 +102,8 @@ fn names<'a>(heap: Global, words: &[Word<'a>]) -> Result<Vec<Mention<'a>>, Flaw>
             return Ok(list);
         }
     }
+    // No name is left, or nothing behind it.
+    let _ = first(left, mention_of)?;
     Err(Flaw::NoForm)
 }
 
