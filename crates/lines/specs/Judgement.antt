@@ -33,7 +33,7 @@ pub data Formed : Type 0 where
   guard : Expression → ℕ → ℕ → Formed
   skip_guard : Expression → Formed
 
--- what a form stands for whose channel has the number that number gives
+-- what a form stands for, where `number` gives the number of its channel
 abbrev pub formed_by : {C : Type 0} → (C → ℕ) → Form C → Formed
 formed_by number (form.Variables first count) = variables first count
 formed_by number (form.Channels first count) = channels first count

@@ -2,8 +2,8 @@
 ghost use Rattle.std.specs.Prelude.{◌≡◌, MatchResult, None, Some, map, option_map};
 ghost use Rattle.words.specs.Token.{token};
 ghost use Rattle.lines.specs.Answer.{answered, UnlessMemory};
-ghost use Rattle.lines.specs.Sentences.{acted_of, action_of, action_read, address_of, channels_of, condition_of, ended, guarded_of, input_of, mentions_read, name_last, names_of, namings, opened_by, place_of, process_of, sentence_of, whole_of};
 ghost use Rattle.lines.specs.Roles.{naming_of};
+ghost use Rattle.lines.specs.Sentences.{acted_of, action_of, action_read, address_of, channels_of, condition_of, ended, guarded_of, input_of, mentions_read, name_last, names_of, namings, opened_by, place_of, process_of, sentence_of, whole_of};
 ghost use Rattle.lines.specs.Syntax.{naming, phrase, sentence};
 ghost use Rattle.lines.specs.declared.refusal.Flaw.TheVariants.{NoForm};
 
